@@ -22,6 +22,7 @@ pub struct HpetTable {
 impl PhysicalRecord for HpetTable {
     const MIN_LENGTH: usize = 56;
 
+    #[inline(always)]
     fn read(bytes: &[u8]) -> Self {
         HpetTable {
             header: SdtHeader::read(bytes),

@@ -26,6 +26,7 @@ pub struct Rsdp {
 impl PhysicalRecord for Rsdp {
     const MIN_LENGTH: usize = 36;
 
+    #[inline(always)]
     fn read(bytes: &[u8]) -> Self {
         Rsdp {
             // Signature
@@ -140,6 +141,7 @@ struct RawBytes;
 impl PhysicalRecord for RawBytes {
     const MIN_LENGTH: usize = 1;
 
+    #[inline(always)]
     fn read(_bytes: &[u8]) -> Self {
         RawBytes
     }

@@ -33,6 +33,7 @@ pub struct ArmTimer {
 impl PhysicalRecord for ArmTimer {
     const MIN_LENGTH: usize = 8;
 
+    #[inline(always)]
     fn read(bytes: &[u8]) -> Self {
         timer_in(bytes, 0)
     }
@@ -76,6 +77,7 @@ pub struct Gtdt {
 impl PhysicalRecord for Gtdt {
     const MIN_LENGTH: usize = 96;
 
+    #[inline(always)]
     fn read(bytes: &[u8]) -> Self {
         Gtdt {
             header: SdtHeader::read(bytes),

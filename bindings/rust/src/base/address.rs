@@ -59,6 +59,7 @@ pub type RawAddress = [u8; 12];
 impl PhysicalRecord for RawAddress {
     const MIN_LENGTH: usize = 12;
 
+    #[inline(always)]
     fn read(bytes: &[u8]) -> RawAddress {
         filled(bytes, 0)
     }

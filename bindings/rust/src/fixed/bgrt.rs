@@ -25,6 +25,7 @@ pub struct Bgrt {
 impl PhysicalRecord for Bgrt {
     const MIN_LENGTH: usize = 56;
 
+    #[inline(always)]
     fn read(bytes: &[u8]) -> Self {
         Bgrt {
             header: SdtHeader::read(bytes),

@@ -31,6 +31,7 @@ pub struct Dmar {
 impl PhysicalRecord for Dmar {
     const MIN_LENGTH: usize = 48;
 
+    #[inline(always)]
     fn read(bytes: &[u8]) -> Self {
         Dmar {
             header: SdtHeader::read(bytes),

@@ -25,6 +25,7 @@ pub struct Ivrs {
 impl PhysicalRecord for Ivrs {
     const MIN_LENGTH: usize = 48;
 
+    #[inline(always)]
     fn read(bytes: &[u8]) -> Self {
         Ivrs {
             header: SdtHeader::read(bytes),

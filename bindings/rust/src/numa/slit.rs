@@ -18,6 +18,7 @@ pub struct Slit {
 impl PhysicalRecord for Slit {
     const MIN_LENGTH: usize = 44;
 
+    #[inline(always)]
     fn read(bytes: &[u8]) -> Self {
         Slit {
             header: SdtHeader::read(bytes),

@@ -28,6 +28,7 @@ pub struct Srat {
 impl PhysicalRecord for Srat {
     const MIN_LENGTH: usize = 48;
 
+    #[inline(always)]
     fn read(bytes: &[u8]) -> Self {
         Srat { header: SdtHeader::read(bytes) }
     }

@@ -19,6 +19,7 @@ pub struct Ssdt {
 impl PhysicalRecord for Ssdt {
     const MIN_LENGTH: usize = 36;
 
+    #[inline(always)]
     fn read(bytes: &[u8]) -> Self {
         Ssdt { header: SdtHeader::read(bytes) }
     }

@@ -66,6 +66,7 @@ pub trait PhysicalRecord: Sized {
 impl PhysicalRecord for u16 {
     const MIN_LENGTH: usize = 2;
 
+    #[inline(always)]
     fn read(bytes: &[u8]) -> u16 {
         field(bytes, 0, 2) as u16
     }
@@ -74,6 +75,7 @@ impl PhysicalRecord for u16 {
 impl PhysicalRecord for u64 {
     const MIN_LENGTH: usize = 8;
 
+    #[inline(always)]
     fn read(bytes: &[u8]) -> u64 {
         field(bytes, 0, 8)
     }

@@ -35,7 +35,9 @@ pub struct SdtHeader {
 impl PhysicalRecord for SdtHeader {
     const MIN_LENGTH: usize = 36;
 
+    #[inline(always)]
     fn read(bytes: &[u8]) -> Self {
+        assert!(Self::MIN_LENGTH <= bytes.len());
         SdtHeader {
             signature: Signature::leading(bytes), // Signature
             length: u32_in(bytes, 4),             // Length

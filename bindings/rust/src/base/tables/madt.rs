@@ -45,6 +45,7 @@ pub struct Madt {
 impl PhysicalRecord for Madt {
     const MIN_LENGTH: usize = 44;
 
+    #[inline(always)]
     fn read(bytes: &[u8]) -> Self {
         Madt {
             header: SdtHeader::read(bytes),

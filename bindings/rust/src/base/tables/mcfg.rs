@@ -21,6 +21,7 @@ pub struct Mcfg {
 impl PhysicalRecord for Mcfg {
     const MIN_LENGTH: usize = 44;
 
+    #[inline(always)]
     fn read(bytes: &[u8]) -> Self {
         Mcfg { header: SdtHeader::read(bytes) }
     }
@@ -54,6 +55,7 @@ pub struct McfgEntry {
 impl PhysicalRecord for McfgEntry {
     const MIN_LENGTH: usize = 16;
 
+    #[inline(always)]
     fn read(bytes: &[u8]) -> Self {
         McfgEntry {
             base_address: field_in(bytes, 0, 8), // Base Address

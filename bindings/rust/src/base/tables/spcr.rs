@@ -56,6 +56,7 @@ pub struct Spcr {
 impl PhysicalRecord for Spcr {
     const MIN_LENGTH: usize = 80;
 
+    #[inline(always)]
     fn read(bytes: &[u8]) -> Self {
         Spcr {
             header: SdtHeader::read(bytes),

@@ -17,6 +17,7 @@ struct Unread;
 impl PhysicalRecord for Unread {
     const MIN_LENGTH: usize = 116;
 
+    #[inline(always)]
     fn read(_bytes: &[u8]) -> Self {
         Unread
     }

@@ -7,6 +7,7 @@ use crate::base::memory::handler::PhysicalRecord;
 
 /// Processor Local APIC: a processor and its local APIC (ACPI 6.4, section 5.2.12.2).
 #[derive(Clone, Copy, Debug)]
+#[repr(C)]
 pub struct LocalApicEntry {
     /// Type and Length: the entry's type, and its length in bytes.
     pub header: EntryHeader,
@@ -21,7 +22,9 @@ pub struct LocalApicEntry {
 impl PhysicalRecord for LocalApicEntry {
     const MIN_LENGTH: usize = 8;
 
+    #[inline(always)]
     fn read(bytes: &[u8]) -> Self {
+        assert!(Self::MIN_LENGTH <= bytes.len());
         LocalApicEntry {
             header: EntryHeader::read(bytes),
             processor_id: u8_in(bytes, 2), // ACPI Processor UID
@@ -33,6 +36,7 @@ impl PhysicalRecord for LocalApicEntry {
 
 /// I/O APIC (ACPI 6.4, section 5.2.12.3).
 #[derive(Clone, Copy, Debug)]
+#[repr(C)]
 pub struct IoApicEntry {
     /// Type and Length: the entry's type, and its length in bytes.
     pub header: EntryHeader,
@@ -47,7 +51,9 @@ pub struct IoApicEntry {
 impl PhysicalRecord for IoApicEntry {
     const MIN_LENGTH: usize = 12;
 
+    #[inline(always)]
     fn read(bytes: &[u8]) -> Self {
+        assert!(Self::MIN_LENGTH <= bytes.len());
         IoApicEntry {
             header: EntryHeader::read(bytes),
             io_apic_id: u8_in(bytes, 2),                    // I/O APIC ID
@@ -60,6 +66,7 @@ impl PhysicalRecord for IoApicEntry {
 /// Interrupt Source Override: an ISA interrupt that is not wired to the global system interrupt of
 /// the same number (ACPI 6.4, section 5.2.12.5).
 #[derive(Clone, Copy, Debug)]
+#[repr(C)]
 pub struct InterruptSourceOverrideEntry {
     /// Type and Length: the entry's type, and its length in bytes.
     pub header: EntryHeader,
@@ -76,7 +83,9 @@ pub struct InterruptSourceOverrideEntry {
 impl PhysicalRecord for InterruptSourceOverrideEntry {
     const MIN_LENGTH: usize = 10;
 
+    #[inline(always)]
     fn read(bytes: &[u8]) -> Self {
+        assert!(Self::MIN_LENGTH <= bytes.len());
         InterruptSourceOverrideEntry {
             header: EntryHeader::read(bytes),
             bus: u8_in(bytes, 2),                      // Bus
@@ -89,6 +98,7 @@ impl PhysicalRecord for InterruptSourceOverrideEntry {
 
 /// NMI Source: an interrupt that is to be non-maskable (ACPI 6.4, section 5.2.12.6).
 #[derive(Clone, Copy, Debug)]
+#[repr(C)]
 pub struct NmiSourceEntry {
     /// Type and Length: the entry's type, and its length in bytes.
     pub header: EntryHeader,
@@ -101,7 +111,9 @@ pub struct NmiSourceEntry {
 impl PhysicalRecord for NmiSourceEntry {
     const MIN_LENGTH: usize = 8;
 
+    #[inline(always)]
     fn read(bytes: &[u8]) -> Self {
+        assert!(Self::MIN_LENGTH <= bytes.len());
         NmiSourceEntry {
             header: EntryHeader::read(bytes),
             flags: u16_in(bytes, 2),                   // Flags (MPS INTI Flags)
@@ -113,6 +125,7 @@ impl PhysicalRecord for NmiSourceEntry {
 /// Local APIC NMI: the LINT pin of a local APIC that NMIs are connected to (ACPI 6.4, section
 /// 5.2.12.7).
 #[derive(Clone, Copy, Debug)]
+#[repr(C)]
 pub struct LocalApicNmiEntry {
     /// Type and Length: the entry's type, and its length in bytes.
     pub header: EntryHeader,
@@ -127,7 +140,9 @@ pub struct LocalApicNmiEntry {
 impl PhysicalRecord for LocalApicNmiEntry {
     const MIN_LENGTH: usize = 6;
 
+    #[inline(always)]
     fn read(bytes: &[u8]) -> Self {
+        assert!(Self::MIN_LENGTH <= bytes.len());
         LocalApicNmiEntry {
             header: EntryHeader::read(bytes),
             processor_id: u8_in(bytes, 2), // ACPI Processor UID
@@ -140,6 +155,7 @@ impl PhysicalRecord for LocalApicNmiEntry {
 /// Local APIC Address Override: a 64-bit address of the local APICs, in place of the 32-bit one in
 /// the MADT itself (ACPI 6.4, section 5.2.12.8).
 #[derive(Clone, Copy, Debug)]
+#[repr(C)]
 pub struct LocalApicAddressOverrideEntry {
     /// Type and Length: the entry's type, and its length in bytes.
     pub header: EntryHeader,
@@ -150,7 +166,9 @@ pub struct LocalApicAddressOverrideEntry {
 impl PhysicalRecord for LocalApicAddressOverrideEntry {
     const MIN_LENGTH: usize = 12;
 
+    #[inline(always)]
     fn read(bytes: &[u8]) -> Self {
+        assert!(Self::MIN_LENGTH <= bytes.len());
         LocalApicAddressOverrideEntry {
             header: EntryHeader::read(bytes),
             local_apic_address: field_in(bytes, 4, 8), // Local APIC Address
@@ -160,6 +178,7 @@ impl PhysicalRecord for LocalApicAddressOverrideEntry {
 
 /// Processor Local x2APIC: a processor and its local x2APIC (ACPI 6.4, section 5.2.12.12).
 #[derive(Clone, Copy, Debug)]
+#[repr(C)]
 pub struct LocalX2ApicEntry {
     /// Type and Length: the entry's type, and its length in bytes.
     pub header: EntryHeader,
@@ -174,7 +193,9 @@ pub struct LocalX2ApicEntry {
 impl PhysicalRecord for LocalX2ApicEntry {
     const MIN_LENGTH: usize = 16;
 
+    #[inline(always)]
     fn read(bytes: &[u8]) -> Self {
+        assert!(Self::MIN_LENGTH <= bytes.len());
         LocalX2ApicEntry {
             header: EntryHeader::read(bytes),
             x2apic_id: u32_in(bytes, 4),      // X2APIC ID
@@ -187,6 +208,7 @@ impl PhysicalRecord for LocalX2ApicEntry {
 /// Local x2APIC NMI: the LINT pin of a local x2APIC that NMIs are connected to (ACPI 6.4, section
 /// 5.2.12.13).
 #[derive(Clone, Copy, Debug)]
+#[repr(C)]
 pub struct X2ApicNmiEntry {
     /// Type and Length: the entry's type, and its length in bytes.
     pub header: EntryHeader,
@@ -201,7 +223,9 @@ pub struct X2ApicNmiEntry {
 impl PhysicalRecord for X2ApicNmiEntry {
     const MIN_LENGTH: usize = 12;
 
+    #[inline(always)]
     fn read(bytes: &[u8]) -> Self {
+        assert!(Self::MIN_LENGTH <= bytes.len());
         X2ApicNmiEntry {
             header: EntryHeader::read(bytes),
             flags: u16_in(bytes, 2),         // Flags (MPS INTI Flags)

@@ -14,6 +14,7 @@ use crate::base::memory::handler::PhysicalRecord;
 
 /// Type and Length: the two bytes that each entry of a MADT begins with (section 5.2.12).
 #[derive(Clone, Copy, Debug)]
+#[repr(C)]
 pub struct EntryHeader {
     /// Type: the entry's type.
     pub entry_type: u8,
@@ -26,6 +27,7 @@ impl PhysicalRecord for EntryHeader {
 
     #[inline(always)]
     fn read(bytes: &[u8]) -> Self {
+        assert!(Self::MIN_LENGTH <= bytes.len());
         EntryHeader {
             entry_type: u8_in(bytes, 0), // Type
             length: u8_in(bytes, 1),     // Length
@@ -35,6 +37,7 @@ impl PhysicalRecord for EntryHeader {
 
 /// An entry of a MADT, of types 0 to 0x10, with its fields (section 5.2.12).
 #[derive(Clone, Copy, Debug)]
+#[repr(u8)]
 pub enum MadtEntry {
     /// Processor Local APIC, type 0x00 (section 5.2.12.2).
     LocalApic(LocalApicEntry),

@@ -10,6 +10,7 @@ use crate::base::memory::handler::PhysicalRecord;
 /// field that reaches past the end of a short entry is read as if zeros followed (ACPI 6.4, section
 /// 5.2.12.14).
 #[derive(Clone, Copy, Debug)]
+#[repr(C)]
 pub struct GiccEntry {
     /// Type and Length: the entry's type, and its length in bytes.
     pub header: EntryHeader,
@@ -51,7 +52,9 @@ pub struct GiccEntry {
 impl PhysicalRecord for GiccEntry {
     const MIN_LENGTH: usize = 76;
 
+    #[inline(always)]
     fn read(bytes: &[u8]) -> Self {
+        assert!(Self::MIN_LENGTH <= bytes.len());
         GiccEntry {
             header: EntryHeader::read(bytes),
             cpu_interface_number: u32_in(bytes, 4),        // CPU Interface Number
@@ -75,6 +78,7 @@ impl PhysicalRecord for GiccEntry {
 
 /// GIC Distributor (GICD): that of the generic interrupt controller (ACPI 6.4, section 5.2.12.15).
 #[derive(Clone, Copy, Debug)]
+#[repr(C)]
 pub struct GicdEntry {
     /// Type and Length: the entry's type, and its length in bytes.
     pub header: EntryHeader,
@@ -91,7 +95,9 @@ pub struct GicdEntry {
 impl PhysicalRecord for GicdEntry {
     const MIN_LENGTH: usize = 24;
 
+    #[inline(always)]
     fn read(bytes: &[u8]) -> Self {
+        assert!(Self::MIN_LENGTH <= bytes.len());
         GicdEntry {
             header: EntryHeader::read(bytes),
             gic_id: u32_in(bytes, 4),                     // GIC ID
@@ -104,6 +110,7 @@ impl PhysicalRecord for GicdEntry {
 
 /// GIC MSI Frame: a frame that turns messages into interrupts (ACPI 6.4, section 5.2.12.16).
 #[derive(Clone, Copy, Debug)]
+#[repr(C)]
 pub struct GicMsiFrameEntry {
     /// Type and Length: the entry's type, and its length in bytes.
     pub header: EntryHeader,
@@ -122,7 +129,9 @@ pub struct GicMsiFrameEntry {
 impl PhysicalRecord for GicMsiFrameEntry {
     const MIN_LENGTH: usize = 24;
 
+    #[inline(always)]
     fn read(bytes: &[u8]) -> Self {
+        assert!(Self::MIN_LENGTH <= bytes.len());
         GicMsiFrameEntry {
             header: EntryHeader::read(bytes),
             frame_id: u32_in(bytes, 4),                   // GIC MSI Frame ID
@@ -136,6 +145,7 @@ impl PhysicalRecord for GicMsiFrameEntry {
 
 /// GIC Redistributor (GICR): a range of memory that holds redistributors (ACPI 6.4, section 5.2.12.17).
 #[derive(Clone, Copy, Debug)]
+#[repr(C)]
 pub struct GicRedistributorEntry {
     /// Type and Length: the entry's type, and its length in bytes.
     pub header: EntryHeader,
@@ -148,7 +158,9 @@ pub struct GicRedistributorEntry {
 impl PhysicalRecord for GicRedistributorEntry {
     const MIN_LENGTH: usize = 16;
 
+    #[inline(always)]
     fn read(bytes: &[u8]) -> Self {
+        assert!(Self::MIN_LENGTH <= bytes.len());
         GicRedistributorEntry {
             header: EntryHeader::read(bytes),
             discovery_range_base_address: field_in(bytes, 4, 8), // Discovery Range Base Address
@@ -160,6 +172,7 @@ impl PhysicalRecord for GicRedistributorEntry {
 /// GIC Interrupt Translation Service (ITS): it translates messages to interrupts (ACPI 6.4, section
 /// 5.2.12.18).
 #[derive(Clone, Copy, Debug)]
+#[repr(C)]
 pub struct GicInterruptTranslationServiceEntry {
     /// Type and Length: the entry's type, and its length in bytes.
     pub header: EntryHeader,
@@ -172,7 +185,9 @@ pub struct GicInterruptTranslationServiceEntry {
 impl PhysicalRecord for GicInterruptTranslationServiceEntry {
     const MIN_LENGTH: usize = 20;
 
+    #[inline(always)]
     fn read(bytes: &[u8]) -> Self {
+        assert!(Self::MIN_LENGTH <= bytes.len());
         GicInterruptTranslationServiceEntry {
             header: EntryHeader::read(bytes),
             id: u32_in(bytes, 4),                         // GIC ITS ID

@@ -7,6 +7,7 @@ use crate::base::memory::handler::PhysicalRecord;
 
 /// I/O SAPIC: one that is used in place of the I/O APIC of the same id (ACPI 6.4, section 5.2.12.9).
 #[derive(Clone, Copy, Debug)]
+#[repr(C)]
 pub struct IoSapicEntry {
     /// Type and Length: the entry's type, and its length in bytes.
     pub header: EntryHeader,
@@ -21,7 +22,9 @@ pub struct IoSapicEntry {
 impl PhysicalRecord for IoSapicEntry {
     const MIN_LENGTH: usize = 16;
 
+    #[inline(always)]
     fn read(bytes: &[u8]) -> Self {
+        assert!(Self::MIN_LENGTH <= bytes.len());
         IoSapicEntry {
             header: EntryHeader::read(bytes),
             io_apic_id: u8_in(bytes, 2),                    // I/O APIC ID
@@ -34,6 +37,7 @@ impl PhysicalRecord for IoSapicEntry {
 /// Local SAPIC: a processor and its local SAPIC. ACPI Processor UID String, the text after the
 /// number, is not read (ACPI 6.4, section 5.2.12.10).
 #[derive(Clone, Copy, Debug)]
+#[repr(C)]
 pub struct LocalSapicEntry {
     /// Type and Length: the entry's type, and its length in bytes.
     pub header: EntryHeader,
@@ -52,7 +56,9 @@ pub struct LocalSapicEntry {
 impl PhysicalRecord for LocalSapicEntry {
     const MIN_LENGTH: usize = 16;
 
+    #[inline(always)]
     fn read(bytes: &[u8]) -> Self {
+        assert!(Self::MIN_LENGTH <= bytes.len());
         LocalSapicEntry {
             header: EntryHeader::read(bytes),
             processor_id: u8_in(bytes, 2),    // ACPI Processor ID
@@ -66,6 +72,7 @@ impl PhysicalRecord for LocalSapicEntry {
 
 /// Platform Interrupt Source: an interrupt of the platform itself (ACPI 6.4, section 5.2.12.11).
 #[derive(Clone, Copy, Debug)]
+#[repr(C)]
 pub struct PlatformInterruptSourceEntry {
     /// Type and Length: the entry's type, and its length in bytes.
     pub header: EntryHeader,
@@ -88,7 +95,9 @@ pub struct PlatformInterruptSourceEntry {
 impl PhysicalRecord for PlatformInterruptSourceEntry {
     const MIN_LENGTH: usize = 16;
 
+    #[inline(always)]
     fn read(bytes: &[u8]) -> Self {
+        assert!(Self::MIN_LENGTH <= bytes.len());
         PlatformInterruptSourceEntry {
             header: EntryHeader::read(bytes),
             flags: u16_in(bytes, 2),                            // Flags (MPS INTI Flags)

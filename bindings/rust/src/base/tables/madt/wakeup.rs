@@ -8,6 +8,7 @@ use crate::base::memory::handler::PhysicalRecord;
 /// Multiprocessor Wakeup: the mailbox by which the firmware is requested to wake a processor (section
 /// 5.2.12.19).
 #[derive(Clone, Copy, Debug)]
+#[repr(C)]
 pub struct MultiprocessorWakeupEntry {
     /// Type and Length: the entry's type, and its length in bytes.
     pub header: EntryHeader,
@@ -20,7 +21,9 @@ pub struct MultiprocessorWakeupEntry {
 impl PhysicalRecord for MultiprocessorWakeupEntry {
     const MIN_LENGTH: usize = 16;
 
+    #[inline(always)]
     fn read(bytes: &[u8]) -> Self {
+        assert!(Self::MIN_LENGTH <= bytes.len());
         MultiprocessorWakeupEntry {
             header: EntryHeader::read(bytes),
             mailbox_version: u16_in(bytes, 2),      // MailBoxVersion
