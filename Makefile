@@ -3,9 +3,9 @@
 #   make                    out/libzacpi.a, for programs
 #   make kernel             out/libzacpi-kernel.a, by $(KERNEL_CFLAGS): general registers alone, no red zone, no jump
 #                           through a register
-#   make split              out/libzacpi-split.a, an object for each function, for linkers without --gc-sections
 #   make check              calls of it by programs of examples/c and tests/c; elsewhere RUN=qemu-arm LDFLAGS=-static
-#   make install            the headers, zacpi.c, both archives, what leads pkg-config and CMake to them, examples
+#   make install            the headers, zacpi.c, zacpi-subset, both archives, what leads pkg-config and CMake to them,
+#                           examples
 #   make acpi_dump          out/acpi_dump, the program, for Linux, BSD and macOS on x86-64 and AArch64
 #   make install-programs   acpi_dump, or the programs in $(PROGRAMS), with their manual pages and completions
 #   make uninstall          removes what both have installed
@@ -44,14 +44,6 @@ $(OUT)/lib%.a: dist/zacpi.c $(wildcard include/*.h)
 	@rm -f $@
 	$(AR) rcs $@ $(OUT)/$*.o
 
-split: $(OUT)/libzacpi-split.a
-$(OUT)/libzacpi-split.a: dist/zacpi.c scripts/zacpi-split.awk
-	@rm -rf $(OUT)/split $@ && mkdir -p $(OUT)/split
-	awk -v folder=$(OUT)/split -f scripts/zacpi-split.awk $<
-	for file in $(OUT)/split/*.c; do \
-	    $(CC) $(SECTIONS) $(CFLAGS) -Iinclude -c $$file -o $${file%c}o || exit 1; done
-	$(AR) rcs $@ $(OUT)/split/*.o
-
 # Assembly of what is proved, and what calls the C library for it. It is for ELF; macOS has Mach-O.
 acpi_dump: $(OUT)/acpi_dump
 DUMP = dist/acpi_dump-$(PROCESSOR).s
@@ -73,9 +65,10 @@ check: $(OUT)/libzacpi.a
 
 # What a user includes, compiles, links and looks for. The folder can be moved as a whole.
 install: $(OUT)/libzacpi.a $(OUT)/libzacpi-kernel.a
-	mkdir -p $(DESTDIR)$(PREFIX)/include $(DESTDIR)$(LIBDIR)/pkgconfig $(DESTDIR)$(LIBDIR)/cmake/zacpi \
-	    $(DOC)/examples
+	mkdir -p $(DESTDIR)$(PREFIX)/include $(DESTDIR)$(PREFIX)/bin $(DESTDIR)$(LIBDIR)/pkgconfig \
+	    $(DESTDIR)$(LIBDIR)/cmake/zacpi $(DOC)/examples
 	$(INSTALL) include/*.h dist/zacpi.c $(DESTDIR)$(PREFIX)/include
+	install -m 755 scripts/zacpi-subset $(DESTDIR)$(PREFIX)/bin
 	$(INSTALL) $(OUT)/libzacpi.a $(OUT)/libzacpi-kernel.a $(DESTDIR)$(LIBDIR)
 	for name in zacpi zacpi-kernel; do sed "s|@NAME@|$$name|; s|@VERSION@|$(VERSION)|; s|@PREFIX@|$(PREFIX)|; \
 	    s|@LIBDIR@|$(LIBDIR)|" scripts/zacpi.pc.in >$(DESTDIR)$(LIBDIR)/pkgconfig/$$name.pc || exit 1; done
@@ -99,9 +92,9 @@ install-programs: $(filter $(OUT)/acpi_dump,$(PROGRAMS)/acpi_dump)
 uninstall:
 	rm -rf $(DESTDIR)$(LIBDIR)/cmake/zacpi $(DOC)
 	rm -f $(addprefix $(DESTDIR)$(LIBDIR)/,libzacpi.a libzacpi-kernel.a pkgconfig/zacpi.pc pkgconfig/zacpi-kernel.pc) \
-	    $(addprefix $(DESTDIR)$(PREFIX)/,$(wildcard include/*.h) include/zacpi.c $(NAMES:%=bin/%)) \
+	    $(addprefix $(DESTDIR)$(PREFIX)/,$(wildcard include/*.h) include/zacpi.c bin/zacpi-subset $(NAMES:%=bin/%)) \
 	    $(NAMES:%=$(SHARE)/man/man1/%.1) $(SHARE)/bash-completion/completions/acpi_dump \
 	    $(SHARE)/zsh/site-functions/_acpi_dump
 clean:
 	rm -rf $(OUT)
-.PHONY: all kernel split acpi_dump check install install-programs uninstall clean
+.PHONY: all kernel acpi_dump check install install-programs uninstall clean

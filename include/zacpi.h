@@ -518,7 +518,7 @@ struct zacpi_hpet_info {
     uint8_t page_protection;  /* bits 0 to 3: 0 nothing is promised, 1 the 4 KiB may be accessed, 2
                                * the 64 KiB, 3 reserved (3 to 15) */
 };
-enum { /* of event_timer_block_id */
+enum zacpi_event_timer_block_id {
     ZACPI_HPET_HARDWARE_REV_ID = 0xff,
     ZACPI_HPET_NUMBER_OF_COMPARATORS = 0x1f00, /* less one */
     ZACPI_HPET_COUNT_SIZE_CAP = 0x2000,        /* the counter has 64 bits */
@@ -1296,6 +1296,7 @@ ZACPI_STATUS zacpi_distance(const struct zacpi_source *source, uint64_t from, ui
 /* The DMAR (Intel Virtualization Technology for Directed I/O 4.0, chapter 8). Its structures begin
  * at byte 48, each with a Length of at least 16, 24, 8, 20, 8, 8 and 8 for Types 0 to 6, and 4
  * for others; device scopes have at least 6 bytes (section 8.3.1). */
+
 enum zacpi_dmar_flag { /* Flags of the DMAR, section 8.1 */
     ZACPI_DMAR_INTR_REMAP = 0x1, ZACPI_DMAR_X2APIC_OPT_OUT = 0x2,
     ZACPI_DMAR_DMA_CTRL_PLATFORM_OPT_IN_FLAG = 0x4
@@ -1427,6 +1428,7 @@ ZACPI_STATUS zacpi_list_dmar_reserved(const struct zacpi_source *source, uint16_
  * 0x20 to 0x22, and 4 for others. A device entry has 4, 8, 16 or 32 bytes by bits 6 and 7 of its
  * Type, but one of Type 0xf0 has 22 and the bytes of its UID. The end of a range, Type 4, is right
  * after its start. A device id is 256 times the bus, 8 times the device, and the function. */
+
 struct zacpi_ivrs_unit { /* I/O Virtualization Hardware Definition (IVHD) */
     zacpi_u64 base;
     zacpi_u64 extended_features;   /* EFR Register Image, or 0 */
@@ -1435,7 +1437,8 @@ struct zacpi_ivrs_unit { /* I/O Virtualization Hardware Definition (IVHD) */
     uint16_t segment;
     uint16_t device_id;            /* the unit's own */
     uint16_t capability_offset, info;
-    uint8_t block_type, flags;
+    uint8_t block_type;
+    uint8_t flags;                 /* of enum zacpi_ivhd_flag */
     uint8_t has_extended_features; /* 0 for Type 0x10 */
 };
 enum zacpi_ivhd_flag { /* Flags of an IVHD; the last two are of Type 0x10 alone */

@@ -440,6 +440,6 @@ static void check_all_written(void) {
     check_gic_codes();
     check_places();
     check_facs_places();
-    check_all_read();
+    if (is_there("open")) check_all_read();
 }
 #endif
