@@ -1,7 +1,12 @@
 //! Memory of an allocator: vectors of a fixed capacity, and what fails where a limit is reached.
+#![cfg_attr(feature = "allocator_api", feature(allocator_api))]
 mod common;
 use common::{Memory, ROOT};
+#[cfg(feature = "allocator_api")]
+use std::alloc::Layout;
 use std::cell::Cell;
+#[cfg(feature = "allocator_api")]
+use std::ptr::NonNull;
 use zacpi::alloc::{AllocError, Allocator, Global, TryClone, Vec};
 use zacpi::platform::interrupt::InterruptModel;
 use zacpi::{AcpiError, AcpiHandler, AcpiResult, AcpiTables, ManagedSlice, PlatformInfo};
@@ -15,8 +20,8 @@ impl Limit {
     }
 }
 
-impl Allocator for Limit {
-    fn take(&self, size: usize) -> Result<(), AllocError> {
+impl Limit {
+    fn take_bytes(&self, size: usize) -> Result<(), AllocError> {
         let taken = self.1.get() + size;
         if taken > self.0 {
             return Err(AllocError);
@@ -25,8 +30,34 @@ impl Allocator for Limit {
         Ok(())
     }
 
-    fn give(&self, size: usize) {
+    fn give_bytes(&self, size: usize) {
         self.1.set(self.1.get().checked_sub(size).expect("it was taken"));
+    }
+}
+
+#[cfg(not(feature = "allocator_api"))]
+impl Allocator for Limit {
+    fn take(&self, size: usize) -> Result<(), AllocError> {
+        self.take_bytes(size)
+    }
+
+    fn give(&self, size: usize) {
+        self.give_bytes(size);
+    }
+}
+
+// SAFETY: the blocks are the global allocator's.
+#[cfg(feature = "allocator_api")]
+unsafe impl Allocator for Limit {
+    fn allocate(&self, layout: Layout) -> Result<NonNull<[u8]>, AllocError> {
+        self.take_bytes(layout.size())?;
+        Global.allocate(layout)
+    }
+
+    unsafe fn deallocate(&self, at: NonNull<u8>, layout: Layout) {
+        self.give_bytes(layout.size());
+        // SAFETY: the caller promised the same.
+        unsafe { Global.deallocate(at, layout) }
     }
 }
 
