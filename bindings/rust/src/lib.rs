@@ -37,3 +37,4 @@ pub use alloc::TryClone;
 pub use mapper::{MappedMailbox, Mapper, PhysicalMapper};
 pub use memory::{SourceMemory, clip_ranges};
 pub use of_tables::of_tables;
+pub use sums::set_sum;

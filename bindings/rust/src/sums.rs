@@ -4,6 +4,10 @@
 use crate::base::bytes::byte_sum;
 
 /// Sets the byte at an offset, a checksum, so that all bytes sum to 0 modulo 256 (sections 5.2.5.3 and 5.2.6).
+///
+/// # Panics
+///
+/// Panics if there is no byte at the offset.
 pub fn set_sum(bytes: &mut [u8], offset: usize) {
     bytes[offset] = 0;
     bytes[offset] = 0u8.wrapping_sub(byte_sum(bytes));

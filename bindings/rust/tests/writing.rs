@@ -639,3 +639,15 @@ fn fails_as_a_whole() {
         assert_eq!(error(&machine, 0x1000, 4096), WriterError::TooLong);
     }
 }
+
+/// A checksum is what the others lack of a multiple of 256: 0x100 less 1, 2 and 3; 0 of none.
+#[test]
+fn sums_anew() {
+    let mut bytes = [1, 2, 0x77, 3];
+    zacpi::set_sum(&mut bytes, 2);
+    assert_eq!(bytes, [1, 2, 0xfa, 3]);
+    assert!(std::panic::catch_unwind(move || zacpi::set_sum(&mut bytes, 4)).is_err());
+    let mut one = [0x77];
+    zacpi::set_sum(&mut one, 0);
+    assert_eq!(one, [0]);
+}
