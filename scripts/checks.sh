@@ -37,6 +37,21 @@ has_rust() {
     [ "$oldest" = "$wanted" ] || { echo "skipped: rustc $oldest is older than $wanted"; return 1; }
 }
 
+# Has cargo take the crates of others from Debian's packages wherever it is run below $made, if they are there.
+crates_of_debian() {
+    for crate in clap serde_json strsim; do
+        ls -d /usr/share/cargo/registry/$crate-[0-9]* >/dev/null 2>&1 || return 1
+    done
+    mkdir -p "$made/.cargo" && cat >"$made/.cargo/config.toml" <<'END'
+[source.crates-io]
+replace-with = "debian"
+[source.debian]
+directory = "/usr/share/cargo/registry"
+[net]
+offline = true
+END
+}
+
 # What acpi_view says for every sample image, by each of its starts: a start of which it is known whether it opens
 # tables prints lines, or else a refusal.
 views() {

@@ -1,16 +1,24 @@
 # SPDX-License-Identifier: MIT
-"""A Cargo workspace of programs over the Rust package, for `scripts/erase --workspace`: their text without what Rattle has
-beyond Rust, so that what tests them tests the package. What they use of Rattle's std and of its crates is in
-tests/rustc."""
+"""The package of the programs, bindings/programs: the crates of acpi_dump, acpi_view and acpi_pack that the library's
+package hasn't, each as a module, without what Rattle has beyond Rust. And for `scripts/erase --workspace` a Cargo
+workspace of crates over copies of both packages, whose text is erased the same way: to run acpi_rows by rustc."""
 import re
 import shutil
 
-STANDINS = ['rattle', 'json', 'clap', 'linked_list_allocator']
+# The module of the package that each crate is, and its programs, of one file each.
+MODULES = {'acpi_cli': 'cli', 'acpi_image_reader': 'image_reader', 'acpi_image': 'image', 'acpi_view_lib': 'view',
+           'acpi_pack_lib': 'pack', 'acpi_dump_walk': 'walk', 'acpi_dump_input': 'input', 'acpi_dump_check': 'check',
+           'acpi_dump_compare': 'compare', 'acpi_dump_page': 'page', 'acpi_dump_lib': 'dump'}
+PROGRAMS = ['acpi_dump', 'acpi_view', 'acpi_pack']
+# Where the package has what is of Rattle's libraries.
+RATTLE = {'clap': 'arguments', 'json': 'json'}
 STD = ['alloc', 'collections', 'vec', 'string', 'boxed', 'num', 'io', 'fs', 'env', 'process', 'os', 'rt']
-# Functions that the package has without the allocator that they are passed in Rattle.
+# Functions that the library's package has without the allocator that they are passed in Rattle.
 GLOBAL = (r'(?P<call>\.platform_info)\([^()]*(?:\([^()]*\))?\)',
           r'\b(?P<path>(?:ManagedSlice|PciConfigRegions|PlatformInfo|GicModel|MemoryAffinities)::new)\('
           r'(?P<first>[^(),]*(?:\([^()]*\))?), ')
+# An error that stable Rust has no name for: it is one of the others.
+UNSTABLE = r' *ErrorKind::FilesystemLoop => [^\n]*,\n'
 
 WORKSPACE = '''[workspace]
 resolver = "3"
@@ -19,10 +27,6 @@ members = [{members}]
 [profile.dev]
 debug = false
 opt-level = 1
-
-[profile.release]
-overflow-checks = {checks}
-debug-assertions = {checks}
 '''
 MANIFEST = '''[package]
 name = "{name}"
@@ -35,62 +39,68 @@ publish = false
 '''
 
 
-def crates(root):
-    """The crates that each crate uses, by crates.txt."""
-    for line in (root / 'crates.txt').read_text().splitlines():
-        line = line.split('#')[0].strip()
-        if line:
-            name, needs = line.split(':', 1)
-            yield name.split()[0], needs.split()
-
-
-# An error that stable Rust has no name for: it is one of the others.
-UNSTABLE = r' *ErrorKind::FilesystemLoop => [^\n]*,\n'
-
-
 def without_global(text):
     text = re.sub(GLOBAL[0], r'\g<call>()', re.sub(UNSTABLE, '', text))
     return re.sub(GLOBAL[1], r'\g<path>(', text)
 
 
-def copy_package(erase, folder):
-    """Copies the package, with the fields of structs in the order of the source, since some rows count a heap's bytes."""
-    shutil.copytree(erase.PACKAGE, folder / 'zacpi', ignore=shutil.ignore_patterns('target', 'tests', 'examples', 'bare'))
-    for path in (folder / 'zacpi/src').rglob('*.rs'):
-        if path.relative_to(folder / 'zacpi/src').parts[0] in erase.MODULES.values():
-            path.write_text(re.sub(r'(?m)^((?:pub(?:\([a-z]+\))? )?struct )', r'#[repr(C)]\n\1',
-                                   path.read_text()))
-    toml = folder / 'zacpi/Cargo.toml'
-    toml.write_text(toml.read_text().replace('[workspace]\n', ''))
-
-
-def workspace(erase, folder, names, checks=True):
-    """Writes the workspace of these programs and of the crates that they need and the package hasn't."""
-    all_needs = dict(crates(erase.ROOT))
-    wanted = list(names)
-    for name in wanted:
-        wanted += [need for need in all_needs[name]
-                   if need in all_needs and need not in erase.MODULES and need not in wanted]
-    places = {f'std::{module}': f'rattle::{module}' for module in STD}
+def places_of(erase, package):
+    """Where the names of Rattle's std and of crates lead, from the package of this name: `crate` in its own library."""
+    places = {f'std::{module}': f'{package}::rattle::{module}' for module in STD}
     places |= {crate: 'zacpi' if module in ('acpi', 'fixed') else f'zacpi::{module}'
                for crate, module in erase.MODULES.items()}
-    places['bitflags'] = 'rattle::bitflags'
-    copy_package(erase, folder)
-    for standin in STANDINS:
-        shutil.copytree(erase.ROOT / 'tests/rustc' / standin, folder / standin)
-    for name in wanted:
-        one_crate(erase, folder, name, all_needs[name], places)
-    members = ', '.join(f'"{name}"' for name in wanted)
-    (folder / 'Cargo.toml').write_text(WORKSPACE.format(members=members, checks=str(checks).lower()))
+    places |= {crate: f'{package}::{module}' for crate, module in {**MODULES, **RATTLE}.items()}
+    return {**places, 'bitflags': f'{package}::rattle::bitflags'}
 
 
-def one_crate(erase, folder, name, needs, places):
-    others = [need for need in needs if need not in erase.MODULES and need != 'bitflags']
-    lines = [f'{need} = {{ path = "../{need}" }}' for need in ['zacpi', 'rattle', *others]]
+def text_of(erase, crate, path, module, package, head):
+    return without_global(erase.file_text(crate, str(path), module, places_of(erase, package), f'{package}::rattle', head))
+
+
+def programs(erase):
+    """The made files of the package, by their paths in its `src`."""
+    made = {}
+    for crate, module in MODULES.items():
+        for path in erase.files_of(crate):
+            is_root = path.name == 'lib.rt'
+            to = erase.Path(module, 'mod.rs' if is_root else path.with_suffix('.rs'))
+            text = text_of(erase, crate, path, module, 'crate', erase.HEAD if is_root else '')
+            made[to] = erase.MADE.format(f'{crate}/src/{path}') + text
+    for name in PROGRAMS:
+        text = text_of(erase, name, 'main.rt', '', 'acpi_dump', '#![forbid(unsafe_code)]\n#![allow(unused_imports)]\n')
+        made[erase.Path('bin', f'{name}.rs')] = erase.MADE.format(f'{name}/src/main.rt') + text
+    return made
+
+
+def copy_packages(erase, folder):
+    """Copies the packages, the library's with the fields of structs in the order of the source, since some rows count a
+    heap's bytes."""
+    left = shutil.ignore_patterns('target', 'tests', 'examples', 'bare', 'Cargo.lock')
+    for name in ('rust', 'programs'):
+        shutil.copytree(erase.ROOT / 'bindings' / name, folder / name, ignore=left)
+        toml = folder / name / 'Cargo.toml'
+        toml.write_text(toml.read_text().replace('[workspace]\n', ''))
+    for path in (folder / 'rust/src').rglob('*.rs'):
+        if path.relative_to(folder / 'rust/src').parts[0] in erase.MODULES.values():
+            path.write_text(re.sub(r'(?m)^((?:pub(?:\([a-z]+\))? )?struct )', r'#[repr(C)]\n\1', path.read_text()))
+
+
+def workspace(erase, folder, names):
+    """Writes the workspace of these crates and of the packages."""
+    copy_packages(erase, folder)
+    heap = 'linked_list_allocator'
+    shutil.copytree(erase.ROOT / 'tests/rustc' / heap, folder / heap)
+    for name in names:
+        one_crate(erase, folder, name, [('zacpi', 'rust'), ('acpi_dump', 'programs'), (heap, heap)])
+    members = ', '.join(f'"{name}"' for name in [*names, 'programs'])
+    (folder / 'Cargo.toml').write_text(WORKSPACE.format(members=members))
+
+
+def one_crate(erase, folder, name, needs):
     for path in erase.files_of(name):
         head = '#![forbid(unsafe_code)]\n#![allow(unused)]\n' if str(path) in ('lib.rt', 'main.rt') else ''
-        text = without_global(erase.file_text(name, str(path), '', places, 'rattle', head))
         to = folder / name / 'src' / path.with_suffix('.rs')
         to.parent.mkdir(parents=True, exist_ok=True)
-        to.write_text(text)
-    (folder / name / 'Cargo.toml').write_text(MANIFEST.format(name=name, needs='\n'.join(lines)))
+        to.write_text(text_of(erase, name, path, '', 'acpi_dump', head))
+    lines = '\n'.join(f'{need} = {{ path = "../{place}" }}' for need, place in needs)
+    (folder / name / 'Cargo.toml').write_text(MANIFEST.format(name=name, needs=lines))

@@ -1,0 +1,111 @@
+// Made by scripts/erase of crates/acpi_dump_check/src/fadt.rt, where it is proved.
+//! The FADT (ACPI 6.5, section 5.2.9).
+
+use crate::check::findings::Findings;
+use zacpi::sdt::field;
+
+pub(crate) const RULES: &str = "
+fadt-dsdt-differs warning ACPI 6.5, section 5.2.9 | DSDT and X_DSDT are two addresses \
+    | is #, and the field of 32 bits #
+fadt-facs-differs warning ACPI 6.5, section 5.2.9 | FIRMWARE_CTRL and X_FIRMWARE_CTRL are two addresses \
+    | is #, and the field of 32 bits #
+fadt-no-dsdt error ACPI 6.5, section 5.2.9 | Neither DSDT nor X_DSDT is an address | is 0, as X_DSDT is
+fadt-no-facs error ACPI 6.5, section 5.2.9 | Neither FIRMWARE_CTRL nor X_FIRMWARE_CTRL is an address on fixed hardware \
+    | is 0, as X_FIRMWARE_CTRL is
+fadt-block-differs warning ACPI 6.5, section 5.2.9 | The two fields of a block of registers give it two places
+fadt-block-width warning ACPI 6.5, section 5.2.9 | The Register Bit Width of a block isn't that of its length
+fadt-event-length error ACPI 6.5, section 5.2.9 | PM1_EVT_LEN is under 4 | is %
+fadt-control-length error ACPI 6.5, section 5.2.9 | PM1_CNT_LEN is under 2 | is %
+fadt-gpe-length error ACPI 6.5, section 5.2.9 | The length of a block of general purpose events is odd \
+    | is %: half are status registers, half enable them
+fadt-timer-length error ACPI 6.5, section 5.2.9 | PM_TMR_LEN is neither 0 nor 4 | is %
+fadt-sci-interrupt error ACPI 6.5, section 5.2.9 | SCI_INT is 0 on fixed hardware | is %, the timer's
+fadt-smi-command warning ACPI 6.5, section 5.2.9 | SMI_CMD is 0, but ACPI_ENABLE isn't | is 0, but ACPI_ENABLE isn't
+fadt-fixed-blocks warning ACPI 6.5, section 5.2.9 | A machine of reduced hardware has blocks of fixed hardware \
+    | HW_REDUCED_ACPI is set
+fadt-reset-register warning ACPI 6.5, section 4.8.3.6 | RESET_REG isn't 8 bits of memory, ports or PCI \
+    | has % bits of the address space %
+fadt-profile note ACPI 6.5, section 5.2.9.1 | Preferred_PM_Profile is a reserved one | % is reserved
+fadt-reserved-flags note ACPI 6.5, sections 5.2.9.2 to 5.2.9.4 | A reserved flag is set | has the reserved flags #
+";
+
+/// A block of registers: the name of its 32-bit field, and the offsets of that, of its length and of its generic
+/// address.
+type Block = (&'static str, usize, usize, usize);
+
+const BLOCKS: [Block; 8] = [
+    ("PM1a_EVT_BLK", 56, 88, 148),
+    ("PM1b_EVT_BLK", 60, 88, 160),
+    ("PM1a_CNT_BLK", 64, 89, 172),
+    ("PM1b_CNT_BLK", 68, 89, 184),
+    ("PM2_CNT_BLK", 72, 90, 196),
+    ("PM_TMR_BLK", 76, 91, 208),
+    ("GPE0_BLK", 80, 92, 220),
+    ("GPE1_BLK", 84, 93, 232),
+];
+
+/// Judges a FADT.
+pub(crate) fn check_fadt(fadt: &[u8], findings: &mut Findings) {
+    check_addresses(fadt, findings);
+    let flags = field(fadt, 112, 4);
+    let (space, width) = (field(fadt, 116, 1), field(fadt, 117, 1)); // RESET_REG
+    // RESET_REG_SUP.
+    if flags & 1 << 10 != 0 && (space > 2 || width != 8) {
+        findings.add("fadt-reset-register", 116, &[width, space]);
+    }
+    let is_reduced = flags & 1 << 20 != 0; // HW_REDUCED_ACPI
+    // FIRMWARE_CTRL, X_FIRMWARE_CTRL: only reduced hardware may do without a FACS.
+    if !is_reduced && field(fadt, 36, 4) == 0 && field(fadt, 132, 8) == 0 {
+        findings.add("fadt-no-facs", 36, &[]);
+    }
+    // SMI_CMD, ACPI_ENABLE.
+    if !is_reduced && field(fadt, 48, 4) == 0 && field(fadt, 52, 1) != 0 {
+        findings.add("fadt-smi-command", 48, &[]);
+    }
+    for block in &BLOCKS {
+        check_block(fadt, *block, is_reduced, findings);
+    }
+}
+
+/// Judges the addresses of the DSDT and the FACS.
+fn check_addresses(fadt: &[u8], findings: &mut Findings) {
+    for (id, narrow, wide) in [
+        ("fadt-dsdt-differs", 40usize, 140usize), // DSDT, X_DSDT
+        ("fadt-facs-differs", 36, 132),           // FIRMWARE_CTRL, X_FIRMWARE_CTRL
+    ] {
+        let (short, long) = (field(fadt, narrow, 4), field(fadt, wide, 8));
+        if short != 0 && long != 0 && short != long {
+            findings.add(id, wide, &[long, short]);
+        }
+        if narrow == 40 && short == 0 && long == 0 {
+            findings.add("fadt-no-dsdt", 40, &[]);
+        }
+    }
+}
+
+/// Judges the two fields of a block: reduced hardware has none, and else they agree if its generic address is given.
+fn check_block(fadt: &[u8], block: Block, is_reduced: bool, findings: &mut Findings) {
+    let (name, narrow, length, wide) = block;
+    let (port, length) = (field(fadt, narrow, 4), field(fadt, length, 1));
+    let register = fadt.get(wide..).unwrap_or(&[]);
+    let (space, width) = (field(register, 0, 1), field(register, 1, 1));
+    let address = field(register, 4, 8);
+    if is_reduced {
+        if port != 0 || address != 0 {
+            let offset = if port != 0 { narrow } else { wide };
+            findings.add("fadt-fixed-blocks", offset, &[]);
+        }
+        return;
+    }
+    if address != 0 && port != 0 && (address != port || space != 1) {
+        let start = findings.text.length();
+        write!(findings.text, "0x{address:x} in space {space}, and {name} is port 0x{port:x}");
+        findings.end("fadt-block-differs", wide, start);
+    }
+    // A width has eight bits, so that 32 bytes don't fit it.
+    if address != 0 && length < 32 && width != 8 * length {
+        let start = findings.text.length();
+        write!(findings.text, "{width} bits wide, and {name} has {length} bytes");
+        findings.end("fadt-block-width", wide, start);
+    }
+}

@@ -1,0 +1,33 @@
+// Made by scripts/erase of crates/acpi_dump_check/src/rules.rt, where it is proved.
+//! The rules that the lines of the subjects describe.
+
+use crate::check::subjects;
+use crate::input::judgement::{Rule, Severity};
+use crate::rattle::Vec;
+use crate::rattle::alloc::{AllocError, Global};
+use crate::walk::language::{cut_at, next_word};
+
+/// All rules, subject by subject.
+///
+/// Fails if memory runs out.
+pub fn rules(alloc: Global) -> Result<Vec<Rule>, AllocError> {
+    let mut all = Vec::new(alloc);
+    for subject in &subjects() {
+        for line in subject.split('\n') {
+            let (id, line) = next_word(line);
+            let (severity, line) = next_word(line);
+            let (section, line) = cut_at(line, '|');
+            let (what, message) = cut_at(line, '|');
+            if let Some(severity) = Severity::read(severity) {
+                all.push(Rule {
+                    id,
+                    severity,
+                    section: section.trim_ascii(),
+                    what: what.trim_ascii(),
+                    message: message.trim_ascii(),
+                })?;
+            }
+        }
+    }
+    Ok(all)
+}

@@ -1,0 +1,286 @@
+// Made by scripts/erase of crates/acpi_dump_lib/src/arguments.rt, where it is proved.
+//! The arguments of the program.
+
+use crate::arguments::ArgMatches;
+use crate::cli::parse_address;
+use crate::cli::root::{Root, parse_root};
+use crate::dump::options::{Choice, Contents, refuse, refuse_option};
+use crate::input::errors::{Log, Stop};
+use crate::input::judgement::Severity;
+use crate::input::kind::{Kind, parse_kind};
+use crate::input::read::Reading;
+use crate::rattle::Vec;
+use crate::rattle::alloc::{AllocError, Global};
+use zacpi::sdt::Signature;
+
+/// The part of an input that is shown.
+#[derive(Clone, Copy)]
+pub(crate) enum View {
+    /// A line for each table.
+    Lines,
+    /// The contents of the tables that are chosen.
+    Tables,
+    /// The RSDPs that there are.
+    Candidates,
+    /// The machine in short.
+    Summary,
+    /// What differs between two inputs.
+    Differences,
+    /// Each table as a file.
+    Files,
+    /// What rules find.
+    Findings,
+    /// The rules.
+    Rules,
+    /// A page.
+    Page,
+}
+
+/// When colors are printed.
+#[derive(Clone, Copy)]
+pub(crate) enum Color {
+    Auto,
+    Always,
+    Never,
+}
+
+/// What the arguments ask for.
+pub(crate) struct Request<'w> {
+    /// The names of what is read.
+    pub(crate) inputs: &'w [&'w str],
+    /// How they are read.
+    pub(crate) reading: Reading,
+    /// The way to the root table, if it is said.
+    pub(crate) start: Option<Root>,
+    pub(crate) view: View,
+    /// The tables whose contents are shown, in this order.
+    pub(crate) choices: Vec<Choice>,
+    /// The folder in which each table is to be a file.
+    pub(crate) folder: Option<&'w str>,
+    /// The file that a page is to be.
+    pub(crate) page: Option<&'w str>,
+    /// Whether these files replace those that are there.
+    pub(crate) is_forced: bool,
+    pub(crate) is_json: bool,
+    pub(crate) is_strict: bool,
+    /// Whether the status is 1 if two inputs differ.
+    pub(crate) is_exit_code: bool,
+    /// The names of fields that are left out of what differs.
+    pub(crate) ignored: &'w [&'w str],
+    /// The least severity of what rules find that is shown, and that makes the status 4, if it is said.
+    pub(crate) least: Option<Severity>,
+    pub(crate) color: Color,
+}
+
+/// A signature in either case: four bytes, in upper case if no table has lower-case letters.
+fn parse_signature(word: &str) -> Option<Option<Signature>> {
+    if word.eq_ignore_ascii_case("all") {
+        return Some(None);
+    }
+    if word.eq_ignore_ascii_case("madt") {
+        return Some(Some(Signature::MADT));
+    }
+    if word.eq_ignore_ascii_case("fadt") {
+        return Some(Some(Signature::FADT));
+    }
+    match word.as_bytes() {
+        [a, b, c, d] => Some(Some(Signature::from_bytes([*a, *b, *c, *d]))),
+        _ => None,
+    }
+}
+
+/// The way that `rsdt:REVISION:ADDRESS`, `rsdp:ADDRESS` or `bios` names.
+fn parse_start(word: &str) -> Option<Root> {
+    let Some((form, rest)) = word.split_once(':') else {
+        return parse_root(&[word]);
+    };
+    match rest.split_once(':') {
+        None => parse_root(&[form, rest]),
+        Some((revision, address)) => parse_root(&[form, revision, address]),
+    }
+}
+
+/// The moment that a word names.
+fn parse_color(word: &str) -> Option<Color> {
+    match word {
+        "auto" => Some(Color::Auto),
+        "always" => Some(Color::Always),
+        "never" => Some(Color::Never),
+        _ => None,
+    }
+}
+
+/// The options that ask for a view.
+const VIEWS: [(&str, View); 4] =
+    [("summary", View::Summary), ("find", View::Candidates), ("compare", View::Differences), ("rules", View::Rules)];
+
+const ONE_VIEW: &str = "[--table SIG].. [--hex SIG].. | --text [--table SIG].. | --extract DIR [--table SIG].. | \
+     [--check] --html FILE | --summary | --find | --compare [--html FILE] | --check | --rules";
+
+/// The word of an option, or no letters, which are no value of any, if it isn't there.
+fn word_of<'w>(matches: &ArgMatches<'w>, option: &str) -> &'w str {
+    matches.get_str(option).unwrap_or("")
+}
+
+/// The value of an option, if it is there and has letters.
+fn name_of<'w>(matches: &ArgMatches<'w>, option: &str) -> Option<&'w str> {
+    match word_of(matches, option) {
+        "" => None,
+        name => Some(name),
+    }
+}
+
+/// The value that the word of an option has.
+///
+/// Fails, after printing that, if the word is there and has none.
+fn checked<T: Copy>(
+    matches: &ArgMatches<'_>,
+    log: &mut Log,
+    option: &'static str,
+    value: Option<T>,
+) -> Result<Option<T>, Stop> {
+    match matches.get_str(option) {
+        Some(word) if value.is_none() => Err(refuse_option(log, option, word)),
+        _ => Ok(value),
+    }
+}
+
+impl Request<'_> {
+    /// Adds a choice: the tables of a signature, or all.
+    fn choose(&mut self, signature: Option<Signature>, contents: Contents) -> Result<(), AllocError> {
+        self.choices.push(Choice { signature, contents })?;
+        Ok(())
+    }
+
+    /// Adds the choices that the words of an option make.
+    fn add_choices(
+        &mut self,
+        matches: &ArgMatches<'_>,
+        log: &mut Log,
+        option: &'static str,
+        contents: Contents,
+    ) -> Result<(), Stop> {
+        for word in matches.get_strs(option).unwrap_or(&[]) {
+            let Some(signature) = parse_signature(*word) else {
+                return Err(refuse_option(log, option, *word));
+            };
+            self.choose(signature, contents)?;
+        }
+        Ok(())
+    }
+
+    /// Adds the tables whose contents are chosen: in acpidump's text all of them, unless some are named.
+    fn add_contents(&mut self, matches: &ArgMatches<'_>, log: &mut Log) -> Result<(), Stop> {
+        let is_text = matches.get_flag("text");
+        let (of_table, of_hex) =
+            if is_text { (Contents::Dumped, Contents::Dumped) } else { (Contents::Fields, Contents::Bytes) };
+        self.add_choices(matches, log, "table", of_table)?;
+        self.add_choices(matches, log, "hex", of_hex)?;
+        if is_text && self.choices.is_empty() {
+            self.choose(None, Contents::Dumped)?;
+        }
+        Ok(())
+    }
+
+    /// Takes a view, which has to be the only one.
+    fn take_view(&mut self, view: View, log: &mut Log) -> Result<(), Stop> {
+        if !matches!(self.view, View::Lines) {
+            return Err(refuse(log, "two views", ONE_VIEW));
+        }
+        self.view = view;
+        Ok(())
+    }
+
+    /// Adds the view that the options ask for, of which at most one kind may be there.
+    fn add_view(&mut self, matches: &ArgMatches<'_>, log: &mut Log) -> Result<(), Stop> {
+        let is_text = matches.get_flag("text");
+        let are_files = self.folder.is_some() && matches.get_strs("hex").is_none();
+        if !self.choices.is_empty() && (!are_files || is_text) {
+            self.view = View::Tables;
+        }
+        for (option, view) in &VIEWS {
+            if matches.get_flag(*option) {
+                self.take_view(*view, log)?;
+            }
+        }
+        if self.folder.is_some() {
+            self.take_view(View::Files, log)?;
+        }
+        if matches.get_str("check").is_some() {
+            self.take_view(View::Findings, log)?;
+        }
+        if self.page.is_some() && !matches!(self.view, View::Differences | View::Findings) {
+            self.take_view(View::Page, log)?;
+        }
+        if self.is_json && (is_text || self.folder.is_some() || self.page.is_some()) {
+            let why = "--text, --extract and --html have no document";
+            return Err(refuse_option(log, "json", why));
+        }
+        Ok(())
+    }
+
+    /// Takes the words after an image as a way to the root table, in place of more inputs, if they are to be one.
+    fn take_root(&mut self, log: &mut Log) -> Result<(), Stop> {
+        let [_, words @ ..] = self.inputs else {
+            return Ok(());
+        };
+        let [form @ ("rsdt" | "rsdp" | "bios"), ..] = words else {
+            return Ok(());
+        };
+        let Some(root) = parse_root(words) else {
+            let usage = "IMAGE rsdt REVISION ADDRESS | rsdp ADDRESS | bios";
+            return Err(refuse(log, *form, usage));
+        };
+        self.inputs = &self.inputs[..1];
+        self.start = Some(root);
+        if self.reading.kind.is_none() && self.reading.at.is_none() {
+            self.reading.kind = Some(Kind::Image);
+        }
+        Ok(())
+    }
+}
+
+/// How the words of options have inputs read.
+///
+/// Fails, after printing that, if one has no value.
+fn reading_of(matches: &ArgMatches<'_>, log: &mut Log) -> Result<Reading, Stop> {
+    let most = word_of(matches, "max-bytes").parse::<u64>().ok();
+    Ok(Reading {
+        kind: checked(matches, log, "as", parse_kind(word_of(matches, "as")))?,
+        at: checked(matches, log, "at", parse_address(word_of(matches, "at")))?,
+        most: checked(matches, log, "max-bytes", most)?.unwrap_or(1 << 30),
+    })
+}
+
+/// The request that matches make.
+///
+/// Fails if memory runs out, or, after printing that, with the first mistake in this order: the words of options, the
+/// choices, the views, and the way to the root table.
+pub(crate) fn request_of<'m>(alloc: Global, matches: &'m ArgMatches<'_>, log: &mut Log) -> Result<Request<'m>, Stop> {
+    let least = match word_of(matches, "check") {
+        "" => None,
+        word => checked(matches, log, "check", Severity::read(word))?,
+    };
+    let start = parse_start(word_of(matches, "start"));
+    let color = parse_color(word_of(matches, "color"));
+    let mut request = Request {
+        least,
+        reading: reading_of(matches, log)?,
+        start: checked(matches, log, "start", start)?,
+        folder: checked(matches, log, "extract", name_of(matches, "extract"))?,
+        page: checked(matches, log, "html", name_of(matches, "html"))?,
+        color: checked(matches, log, "color", color)?.unwrap_or(Color::Auto),
+        view: View::Lines,
+        choices: Vec::new(alloc),
+        inputs: matches.get_strs("input").unwrap_or(&[]),
+        ignored: matches.get_strs("ignore").unwrap_or(&[]),
+        is_forced: matches.get_flag("force"),
+        is_json: matches.get_flag("json"),
+        is_strict: matches.get_flag("strict"),
+        is_exit_code: matches.get_flag("exit-code"),
+    };
+    request.add_contents(matches, log)?;
+    request.add_view(matches, log)?;
+    request.take_root(log)?;
+    Ok(request)
+}

@@ -1,0 +1,158 @@
+// Made by scripts/erase of crates/acpi_dump_lib/src/document/tables.rt, where it is proved.
+//! The tables in a document.
+
+use super::Document;
+use crate::compare::compare::{Difference, ShowDifferences};
+use crate::dump::contents::shows;
+use crate::dump::options::{Choice, Contents};
+use crate::input::entries::{Entry, Place, header_of};
+use crate::json::Token;
+use crate::walk::fields::number_of;
+use crate::walk::walk::walk_with_objects;
+use zacpi::PhysicalRecord;
+use zacpi::sdt::SdtHeader;
+
+/// What is shown of a table beside where it is, its header and what the checks say.
+#[derive(Clone, Copy)]
+enum Part<'p> {
+    Nothing,
+    /// All fields, or all bytes.
+    Whole(Contents),
+    /// The fields in which it differs from another table.
+    Changed(&'p [Difference<'p>]),
+    /// Which of two inputs alone has it.
+    Only(&'static str),
+}
+
+impl ShowDifferences for Document<'_> {
+    fn alone(&mut self, is_first: bool, entry: &Entry<'_>) {
+        let side = if is_first { "first" } else { "second" };
+        add_table(self, entry, Part::Only(side))
+    }
+
+    fn pair(&mut self, old: &Entry<'_>, _new: &Entry<'_>, found: &[Difference<'_>]) {
+        add_table(self, old, Part::Changed(found))
+    }
+}
+
+/// The fields of a header (section 5.2.6): the names, the offsets, the lengths, and whether they are texts.
+const HEADER: [(&str, usize, usize, bool); 7] = [
+    ("creator_id", 28, 4, true),
+    ("creator_revision", 32, 4, false),
+    ("length", 4, 4, false),
+    ("oem_id", 10, 6, true),
+    ("oem_revision", 24, 4, false),
+    ("oem_table_id", 16, 8, true),
+    ("revision", 8, 1, false),
+];
+
+/// Adds fields of a header, if it is there.
+fn add_header(document: &mut Document<'_>, header: &[u8], fields: &[(&str, usize, usize, bool)]) {
+    for (name, offset, length, is_text) in fields {
+        let Some(bytes) = header.get(*offset..offset.saturating_add(*length)) else {
+            return;
+        };
+        if *is_text {
+            document.letters(*name, bytes);
+        } else {
+            document.number(*name, number_of(bytes));
+        }
+    }
+}
+
+/// Adds a table.
+fn add_table(document: &mut Document<'_>, entry: &Entry<'_>, part: Part<'_>) {
+    let header = if header_of(entry).is_some() { entry.bytes } else { &[] };
+    document.token(Token::BeginObject);
+    if let Place::Address(address) = entry.place {
+        document.address("address", address);
+    }
+    if let Part::Whole(Contents::Bytes) = part {
+        document.hex("bytes", entry.bytes);
+    }
+    add_header(document, header, &HEADER[..2]);
+    add_fields(document, entry, part);
+    if let Place::File(name) = entry.place {
+        document.text("file", name);
+    }
+    add_header(document, header, &HEADER[2..6]);
+    if let Part::Only(side) = part {
+        document.text("only", side);
+    }
+    add_header(document, header, &HEADER[6..]);
+    if let Some(signature) = entry.signature() {
+        document.letters("signature", &signature.to_bytes());
+    }
+    document.shown("status", &entry.status);
+    document.flag("valid", !entry.status.is_invalid());
+    document.token(Token::EndObject);
+}
+
+/// Adds the fields of a table, if they are shown.
+fn add_fields(document: &mut Document<'_>, entry: &Entry<'_>, part: Part<'_>) {
+    if !matches!(part, Part::Whole(Contents::Fields) | Part::Changed(_)) {
+        return;
+    }
+    document.begin_list("fields");
+    if let Part::Changed(found) = part {
+        for difference in found {
+            add_difference(document, *difference);
+        }
+    } else if let Some(signature) = entry.signature() {
+        walk_with_objects(document.draft.allocator(), signature, entry.bytes, document);
+    }
+    document.token(Token::EndArray);
+}
+
+/// Adds a field of one of two tables, if it has it: its line's end, and what comes after two spaces there, its meaning.
+fn add_side(document: &mut Document<'_>, name: &str, name_of_meaning: &str, value: Option<&str>) {
+    let Some(value) = value else {
+        return;
+    };
+    document.text(name, value);
+    let (_, meaning) = value.split_once("  ").unwrap_or((value, ""));
+    if !meaning.trim().is_empty() {
+        document.text(name_of_meaning, meaning.trim());
+    }
+}
+
+/// Adds a field that differs between two tables, or a structure that one alone has, with what the structure is called,
+/// unless that is all of the table.
+fn add_difference(document: &mut Document<'_>, difference: Difference<'_>) {
+    let is_field = !difference.name.is_empty();
+    document.token(Token::BeginObject);
+    if is_field {
+        document.text("name", difference.name);
+        add_side(document, "new", "new_meaning", difference.new);
+    }
+    document.number("offset", difference.offset);
+    if is_field {
+        add_side(document, "old", "old_meaning", difference.old);
+    } else {
+        let is_first = difference.old.is_some();
+        document.text("only", if is_first { "first" } else { "second" });
+    }
+    if difference.part > 0 {
+        difference.side.print_path(difference.part, &mut document.draft);
+        document.drafted("structure");
+    }
+    document.token(Token::EndObject);
+}
+
+/// Adds tables, without their contents.
+pub(crate) fn add_all(document: &mut Document<'_>, entries: &[Entry<'_>]) {
+    for entry in entries {
+        add_table(document, entry, Part::Nothing);
+    }
+}
+
+/// Adds the tables that are chosen, with their contents, choice by choice.
+pub(crate) fn add_chosen(document: &mut Document<'_>, entries: &[Entry<'_>], choices: &[Choice]) {
+    for (number, choice) in choices.iter().enumerate() {
+        for entry in entries {
+            if shows(choices, number, entry) {
+                add_table(document, entry, Part::Whole(choice.contents));
+            }
+        }
+    }
+}

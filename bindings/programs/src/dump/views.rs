@@ -1,0 +1,137 @@
+// Made by scripts/erase of crates/acpi_dump_lib/src/views.rt, where it is proved.
+//! The views of an input, as text or as one JSON document.
+
+mod compared;
+mod found;
+mod judged;
+mod machine;
+mod page;
+mod read;
+
+use crate::dump::arguments::{Request, View};
+use crate::dump::contents::{chosen_of, print_tables, tell_missing};
+use crate::dump::document::{Document, add_all, add_chosen};
+use crate::dump::listing::print_lines;
+use crate::dump::paint::Paint;
+use crate::input::entries::Entry;
+use crate::input::errors::{Log, Stop, tell};
+use crate::input::extract::{Saving, save_tables};
+use crate::input::gather::Input;
+use crate::input::sources::Sources;
+use crate::pack::storage::Storage;
+use crate::rattle::alloc::Global;
+use crate::walk::out::Out;
+pub(crate) use compared::print_compared;
+use found::print_found;
+use judged::print_judged;
+pub(crate) use judged::print_rules;
+use machine::print_summary;
+pub(crate) use page::save_page;
+use read::tables_in;
+
+/// How a view is printed.
+#[derive(Clone, Copy)]
+pub(crate) struct Output<'o> {
+    pub(crate) alloc: Global,
+    pub(crate) request: &'o Request<'o>,
+    pub(crate) paint: Paint,
+    /// The number of the input that is read.
+    pub(crate) number: usize,
+}
+
+impl<'o> Output<'o> {
+    /// How the view of the second input is printed.
+    fn second(self) -> Output<'o> {
+        Output { number: 1, ..self }
+    }
+
+    /// The name of the input.
+    fn name(self) -> &'o str {
+        match self.request.inputs.get(self.number) {
+            Some(name) => *name,
+            None => "/sys/firmware/acpi/tables",
+        }
+    }
+
+    /// How files are saved.
+    fn saving(self) -> Saving<'o> {
+        Saving { alloc: self.alloc, is_forced: self.request.is_forced, inputs: self.request.inputs }
+    }
+
+    /// The beginning of a document of what the view shows in the member of this name.
+    fn document(self, part: &'static str) -> Document<'o> {
+        Document::new(self.alloc, self.request.inputs, part)
+    }
+}
+
+/// Prints what is asked for of an input.
+///
+/// Fails, after printing why, if that isn't there, or if memory runs out.
+pub(crate) fn print_input(output: Output<'_>, input: &Input, out: &mut Out, log: &mut Log) -> Result<u8, Stop> {
+    match output.request.view {
+        View::Candidates => print_found(output, input, out, log),
+        View::Summary => print_summary(output, input, out, log),
+        View::Findings => print_judged(output, input, out, log),
+        _ => print_entries(output, &tables_in(output, input, log)?.entries, out, log),
+    }
+}
+
+/// Whether a start is given for tables: it prints that.
+pub(crate) fn has_no_start(output: Output<'_>, input: &Input, log: &mut Log) -> bool {
+    let is_wrong = matches!(input, Input::Tables(_)) && output.request.start.is_some();
+    if is_wrong {
+        let why = "tables, which have no start: --start is for memory";
+        tell(log, output.name(), &why);
+    }
+    is_wrong
+}
+
+/// Saves the tables of an input as files of a folder.
+///
+/// Fails, after printing why, if there are none, or if memory runs out.
+pub(crate) fn save_input<S: Sources, T: Storage>(
+    output: Output<'_>,
+    folder: &str,
+    input: &Input,
+    sources: &mut S,
+    storage: &mut T,
+    out: &mut Out,
+    log: &mut Log,
+) -> Result<u8, Stop> {
+    let choices = output.request.choices.as_slice();
+    let entries = &tables_in(output, input, log)?.entries;
+    tell_missing(entries, choices, output.name(), log);
+    let entries = &chosen_of(output.alloc, entries, choices)?;
+    save_tables(output.saving(), folder, entries, sources, storage, out, log)?;
+    Ok(strict_status(output, entries))
+}
+
+/// Prints what is asked for of tables.
+fn print_entries(output: Output<'_>, entries: &[Entry<'_>], out: &mut Out, log: &mut Log) -> Result<u8, Stop> {
+    let choices = output.request.choices.as_slice();
+    let is_chosen = matches!(output.request.view, View::Tables);
+    if output.request.is_json {
+        let mut document = output.document("tables");
+        let view = if is_chosen {
+            add_chosen(&mut document, entries, choices);
+            "contents"
+        } else {
+            add_all(&mut document, entries);
+            "tables"
+        };
+        document.print(view, out)?;
+    } else if is_chosen {
+        print_tables(entries, choices, output.paint, out);
+    } else {
+        print_lines(entries, output.paint, out);
+    }
+    if is_chosen {
+        tell_missing(entries, choices, output.name(), log);
+    }
+    Ok(strict_status(output, entries))
+}
+
+/// The status if all is shown: 3 if a table is invalid and that counts.
+fn strict_status(output: Output<'_>, entries: &[Entry<'_>]) -> u8 {
+    if output.request.is_strict && entries.iter().any(|entry| entry.status.is_invalid()) { 3 } else { 0 }
+}

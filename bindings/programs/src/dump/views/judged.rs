@@ -1,0 +1,124 @@
+// Made by scripts/erase of crates/acpi_dump_lib/src/views/judged.rt, where it is proved.
+//! What rules find in the tables of an input, and the rules themselves, as lines and as documents.
+
+use super::read::tables_in;
+use super::{Output, strict_status};
+use crate::check::findings_of;
+use crate::check::rules::rules;
+use crate::dump::arguments::View;
+use crate::dump::document::Document;
+use crate::input::entries::{Entry, Place, own_signature, print_name};
+use crate::input::errors::{Log, Stop};
+use crate::input::gather::Input;
+use crate::input::judgement::{Judgement, Rule, Severity, counts_of};
+use crate::json::Token;
+use crate::walk::out::Out;
+
+/// Prints a line for each finding of a severity or a higher one, and how many they are.
+fn print_findings(findings: &Judgement, entries: &[Entry<'_>], least: Severity, out: &mut Out) {
+    for finding in findings.list() {
+        let rule = finding.rule;
+        if rule.severity.rank() >= least.rank()
+            && let Some(entry) = entries.get(finding.table)
+        {
+            out.fill("$ $: ", &[rule.severity.word(), rule.id]);
+            print_name(entry, out);
+            write!(out, " 0x{:04x}", finding.offset);
+            if !finding.field.is_empty() {
+                out.fill(" $", &[finding.field]);
+            }
+            out.text(": ");
+            out.text(findings.message(finding));
+            out.fill(" ($)\n", &[rule.section]);
+        }
+    }
+    let [notes, warnings, errors] = counts_of(findings, least);
+    let counts = [errors as u64, warnings as u64, notes as u64];
+    out.words("errors %, warnings %, notes %\n", &counts);
+}
+
+/// Adds the findings of a severity or a higher one.
+fn add_findings(findings: &Judgement, entries: &[Entry<'_>], least: Severity, document: &mut Document<'_>) {
+    for finding in findings.list() {
+        let Some(entry) = entries.get(finding.table) else {
+            continue;
+        };
+        let rule = finding.rule;
+        if rule.severity.rank() < least.rank() {
+            continue;
+        }
+        document.token(Token::BeginObject);
+        if let Place::Address(address) = entry.place {
+            document.address("address", address);
+        }
+        if !finding.field.is_empty() {
+            document.text("field", finding.field);
+        }
+        if let Place::File(name) = entry.place {
+            document.text("file", name);
+        }
+        document.text("message", findings.message(finding));
+        document.number("offset", finding.offset as u64);
+        document.text("rule", rule.id);
+        document.text("section", rule.section);
+        document.text("severity", rule.severity.word());
+        document.letters("signature", &own_signature(entry.bytes).to_bytes());
+        document.token(Token::EndObject);
+    }
+}
+
+/// Prints what rules find in the tables of an input. Returns the status: 4 if something is bad.
+///
+/// Fails, after printing why, if there are no tables, or if memory runs out.
+pub(super) fn print_judged(output: Output<'_>, input: &Input, out: &mut Out, log: &mut Log) -> Result<u8, Stop> {
+    let tables = &tables_in(output, input, log)?;
+    let findings = &findings_of(&tables.machine(output.alloc))?;
+    let least = output.request.least.unwrap_or(Severity::Note);
+    if output.request.is_json {
+        let mut document = output.document("findings");
+        add_findings(findings, &tables.entries, least, &mut document);
+        document.print("check", out)?;
+    } else {
+        print_findings(findings, &tables.entries, least, out);
+    }
+    Ok(status_of(output, &tables.entries, findings))
+}
+
+/// The status if all is shown: 4 if something is bad and that is asked for, and else as of any other view.
+pub(super) fn status_of(output: Output<'_>, entries: &[Entry<'_>], findings: &Judgement) -> u8 {
+    let bad = output.request.least.unwrap_or(Severity::Error);
+    if matches!(output.request.view, View::Findings) && counts_of(findings, bad) != [0, 0, 0] {
+        return 4;
+    }
+    strict_status(output, entries)
+}
+
+/// Adds the rules.
+fn add_rules(rules: &[Rule], document: &mut Document<'_>) {
+    for rule in rules {
+        document.token(Token::BeginObject);
+        document.text("rule", rule.id);
+        document.text("section", rule.section);
+        document.text("severity", rule.severity.word());
+        document.text("what", rule.what);
+        document.token(Token::EndObject);
+    }
+}
+
+/// Prints the rules.
+///
+/// Fails if memory runs out.
+pub(crate) fn print_rules(output: Output<'_>, out: &mut Out) -> Result<u8, Stop> {
+    let rules = &rules(output.alloc)?;
+    if output.request.is_json {
+        let mut document = output.document("rules");
+        add_rules(rules, &mut document);
+        document.print("rules", out)?;
+        return Ok(0);
+    }
+    for rule in rules {
+        let texts = [rule.id, rule.severity.word(), rule.what, rule.section];
+        out.fill("$ $: $ ($)\n", &texts);
+    }
+    Ok(0)
+}

@@ -1,0 +1,72 @@
+// Made by scripts/erase of crates/acpi_dump_input/src/folder.rt, where it is proved.
+//! The tables of a folder.
+
+use crate::cli::borrowed;
+use crate::input::errors::{Stop, fail, tell};
+use crate::input::kind::Kind;
+use crate::input::order::in_order;
+use crate::input::read::{Reader, Reading};
+use crate::input::sources;
+use crate::input::sources::Sources;
+use crate::rattle::format;
+
+impl<S: Sources> Reader<'_, S> {
+    /// Adds the tables of a file in a folder. A folder in it is skipped, and so is what is no file or has no tables,
+    /// with a message. A file with `.dat` after its name is a table, if it is nothing else.
+    fn add_within(&mut self, path: &str) -> Result<(), Stop> {
+        match self.sources.kind_of(path) {
+            Ok(sources::Kind::Folder) => return Ok(()),
+            Ok(sources::Kind::Other) => return Ok(tell(self.log, path, &"not a file: skipped")),
+            _ => {}
+        }
+        let reading = Reading { kind: None, at: None, ..self.reading };
+        let (kind, bytes) = self.read(path, reading)?;
+        let kind = match kind {
+            None if path.ends_with(".dat") => Some(Kind::Table),
+            kind => kind,
+        };
+        if let Some(Kind::Table | Kind::Text) = kind {
+            return self.add(path, kind, bytes);
+        }
+        tell(self.log, path, &"not a table: skipped");
+        Ok(())
+    }
+
+    /// Adds the tables of the files of these names in a folder, in the order of their names. What isn't added leaves
+    /// the others as they are.
+    fn add_names(&mut self, folder: &str, names: &[&str]) -> Result<(), Stop> {
+        let before = self.tables.len();
+        let mut last = Ok(());
+        let mark = if folder.ends_with('/') { "" } else { "/" };
+        for name in &in_order(self.alloc, names)? {
+            let name = *name;
+            let path = &format!(in self.alloc; "{folder}{mark}{name}")?;
+            if let Err(stop) = self.add_within(path.as_str()) {
+                if let Stop::OutOfMemory = stop {
+                    return Err(stop);
+                }
+                last = Err(stop);
+            }
+        }
+        if self.tables.len() > before {
+            return Ok(());
+        }
+        last?;
+        Err(fail(self.log, folder, &"no table in it"))
+    }
+
+    /// Adds the tables of a folder.
+    ///
+    /// Fails, after printing why, if there are none.
+    pub(crate) fn add_folder(&mut self, folder: &str) -> Result<(), Stop> {
+        let listing = self.sources.names_in(self.alloc, folder);
+        let listing = self.told(folder, listing)?;
+        let unnamed = listing.unnamed;
+        if unnamed > 0 {
+            let what = format_args!("names that are not UTF-8, not shown: {unnamed}");
+            fail(self.log, folder, &what);
+        }
+        let names = borrowed(self.alloc, &listing.names)?;
+        self.add_names(folder, &names)
+    }
+}

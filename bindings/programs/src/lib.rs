@@ -1,0 +1,20 @@
+#![doc = include_str!("../README.md")]
+#![forbid(unsafe_code)]
+
+// The proved crates of the programs, each as a module: made by scripts/erase.
+pub mod check;
+pub mod cli;
+pub mod compare;
+pub mod dump;
+pub mod image;
+pub mod image_reader;
+pub mod input;
+pub mod pack;
+pub mod page;
+pub mod view;
+pub mod walk;
+
+// What they use of Rattle's libraries.
+pub mod arguments;
+pub mod json;
+pub mod rattle;

@@ -1,0 +1,29 @@
+// Made by scripts/erase of crates/acpi_pack_lib/src/help.rt, where it is proved.
+//! The help and the version that the program prints.
+
+/// The text on how the program is called.
+const HELP: &str =
+    "usage: acpi_pack [--fix-checksum] [--raw] OUT memory ADDRESS FILE [ADDRESS FILE]... | tables FILE...
+       acpi_pack --help | --version
+";
+
+/// The text with the program's version.
+const VERSION: &str = "acpi_pack 1.0.0\n";
+
+/// The text that an argument requests, or `None` if it requests none.
+fn told_to(argument: &str) -> Option<&'static str> {
+    match argument {
+        "--help" => Some(HELP),
+        "--version" => Some(VERSION),
+        _ => None,
+    }
+}
+
+/// The text that arguments request, or `None` if they request none: how the program is called for `--help`
+/// alone, and its version for `--version` alone.
+pub(crate) fn told(arguments: &[&str]) -> Option<&'static str> {
+    match arguments {
+        [argument] => told_to(argument),
+        _ => None,
+    }
+}

@@ -1,0 +1,245 @@
+// Made by scripts/erase of crates/acpi_dump_walk/src/aml/value.rt, where it is proved.
+//! The values of objects, as far as they are constants (section 20.2.3). AML is not run.
+
+use super::resources::print_resources;
+use crate::walk::fields::{number_of, print_guid_digits, print_hex, print_segments};
+use crate::walk::out::Out;
+use zacpi::sleep::block::block_at;
+use zacpi::sleep::name::name_at;
+use zacpi::sleep::term::{Part, parts_end};
+
+/// How deep packages are shown in packages at most.
+const DEEPEST: u32 = 8;
+
+/// How many bytes of a buffer are shown at most.
+const MOST: usize = 32;
+
+/// The address spaces of operation regions, from 0 on (section 19.6.114).
+const SPACES: &str = "SystemMemory SystemIO PCI_Config EmbeddedControl SMBus SystemCMOS PciBarTarget IPMI \
+    GeneralPurposeIO GenericSerialBus PCC";
+
+/// What is shown of an object besides its name.
+#[derive(Clone, Copy)]
+pub enum Value<'a> {
+    /// Nothing.
+    Hidden,
+    /// What a `Name` is set to.
+    Data(&'a [u8]),
+    /// The address space of an operation region, its offset and its length.
+    Region(&'a [u8]),
+    /// A method's flags.
+    Method(u8),
+    /// The first bit of a field's unit, and how many it has.
+    Bits(u64, u64),
+}
+
+impl<'a> Value<'a> {
+    /// The value of an object of an opcode, of which these bytes are after its name.
+    pub(super) fn after_name(code: u16, bytes: &'a [u8]) -> Value<'a> {
+        match (code, bytes) {
+            (0x08, _) => Value::Data(bytes),
+            (0x14, [flags, ..]) => Value::Method(*flags),
+            (0x5B80, _) => Value::Region(bytes),
+            _ => Value::Hidden,
+        }
+    }
+
+    /// Prints the value of an object of a path; of several resources or packages, each but the first after `between`.
+    pub fn print(self, path: &[u8], between: &str, out: &mut Out) {
+        match self {
+            Value::Hidden => {}
+            Value::Data(data) => print_named(path, data, between, out),
+            Value::Region(parts) => print_region(parts, out),
+            Value::Method(flags) => {
+                out.words("arguments %", &[flags as u64 % 8]);
+                if flags & 8 != 0 {
+                    out.text(", serialized");
+                }
+            }
+            Value::Bits(first, 1) => out.words("bit %", &[first]),
+            Value::Bits(first, count) => {
+                let last = first.saturating_add(count.saturating_sub(1));
+                out.words("bits % to %", &[first, last])
+            }
+        }
+    }
+}
+
+/// Prints what a name of a path is set to. The last segment has the meaning: resources (sections 6.2.2 to 6.2.13), or
+/// the ids of devices (sections 6.1.2 and 6.1.5).
+fn print_named(path: &[u8], data: &[u8], between: &str, out: &mut Out) {
+    let name = path.get(path.len().saturating_sub(4)..).unwrap_or(&[]);
+    if matches!(name, b"_CRS" | b"_PRS" | b"_DMA")
+        && let Some((_, bytes)) = buffer_in(data)
+    {
+        return print_resources(bytes, between, out);
+    }
+    if let Some((_, [0x12 | 0x13, ..])) = elements_of(data) {
+        return print_elements(data, false, DEEPEST - 1, between, out);
+    }
+    print_data(data, matches!(name, b"_HID" | b"_CID"), DEEPEST, out)
+}
+
+/// Prints a constant, in which numbers may be the ids of devices.
+fn print_data(data: &[u8], are_ids: bool, depth: u32, out: &mut Out) {
+    if let Some(number) = integer_in(data) {
+        return print_integer(data, number, are_ids, out);
+    }
+    match data {
+        [0x0D, text @ ..] => {
+            out.text("\"");
+            out.escaped(text.strip_suffix(&[0]).unwrap_or(text));
+            out.text("\"")
+        }
+        [0x11, ..] => print_buffer(data, out),
+        [0x12 | 0x13, ..] if depth > 0 => {
+            out.text("{");
+            print_elements(data, are_ids, depth - 1, ", ", out);
+            out.text("}")
+        }
+        _ => print_reference(data, out),
+    }
+}
+
+/// The integer that is all of a constant.
+fn integer_in(data: &[u8]) -> Option<u64> {
+    match data {
+        [0x00] => Some(0),
+        [0x01] => Some(1),
+        [0xFF] => Some(u64::MAX),
+        [0x0A, _] | [0x0B, _, _] | [0x0C, _, _, _, _] | [0x0E, _, _, _, _, _, _, _, _] => Some(number_of(&data[1..])),
+        _ => None,
+    }
+}
+
+/// Prints an integer. An EISA id has three letters of five bits and four hexadecimal digits, the highest first (section
+/// 19.3.4).
+fn print_integer(data: &[u8], number: u64, are_ids: bool, out: &mut Out) {
+    let [0x0C, high, next, digits @ ..] = data else {
+        return out.words("#", &[number]);
+    };
+    let letters = [*high / 4, *high % 4 * 8 + *next / 32, *next % 32];
+    if !are_ids || !matches!(letters, [1..=26, 1..=26, 1..=26]) {
+        return out.words("#", &[number]);
+    }
+    out.text("EISA id ");
+    for letter in letters {
+        out.bytes(&[b'@' + letter]);
+    }
+    for pair in digits {
+        write!(out, "{pair:02X}");
+    }
+}
+
+/// The size of a buffer, if it is constant, and the bytes that it begins with.
+fn buffer_in(data: &[u8]) -> Option<(Option<u64>, &[u8])> {
+    let [0x11, ..] = data else {
+        return None;
+    };
+    let block = block_at(data, 1).ok()?;
+    let start = parts_end(&[Part::Argument], data, block.start).ok()?;
+    let size = integer_in(data.get(block.start..start)?);
+    Some((size, data.get(start..block.end)?))
+}
+
+/// Prints a buffer: as a UUID, if its 16 bytes have a version and a variant of one, or its size and first bytes.
+fn print_buffer(data: &[u8], out: &mut Out) {
+    let Some((size, bytes)) = buffer_in(data) else {
+        return out.text("..");
+    };
+    if is_uuid(size, bytes) {
+        out.text("UUID ");
+        return print_guid_digits(bytes, out);
+    }
+    match size {
+        Some(size) => out.words("buffer of % bytes", &[size]),
+        None => out.text("buffer"),
+    }
+    if bytes.is_empty() {
+        return;
+    }
+    out.text(": ");
+    print_hex(bytes.get(..MOST).unwrap_or(bytes), out);
+    if bytes.len() > MOST {
+        out.text("..");
+    }
+}
+
+/// Whether the bytes of a buffer are a UUID of version 1 to 5, of the variant of RFC 4122.
+fn is_uuid(size: Option<u64>, bytes: &[u8]) -> bool {
+    size == Some(16) && bytes.len() == 16 && matches!(bytes, [_, _, _, _, _, _, _, 0x10..=0x5F, 0x80..=0xBF, ..])
+}
+
+/// Prints the elements of a package, each but the first after `between`: as many as it has, or fewer if no more are
+/// set.
+fn print_elements(data: &[u8], are_ids: bool, depth: u32, between: &str, out: &mut Out) {
+    let Some((count, elements)) = elements_of(data) else {
+        return out.text("..");
+    };
+    let mut at = 0;
+    for index in 0..count {
+        if at >= elements.len() {
+            return;
+        }
+        if index > 0 {
+            out.text(between);
+        }
+        let Ok(end) = parts_end(&[Part::Argument], elements, at) else {
+            return out.text("..");
+        };
+        print_data(&elements[at..end], are_ids, depth, out);
+        at = end;
+    }
+}
+
+/// How many elements a package has, and the bytes of those that are set; `None` of other constants, and of a count that
+/// isn't constant.
+fn elements_of(data: &[u8]) -> Option<(u64, &[u8])> {
+    let part = match data {
+        [0x12, ..] => Part::Byte,
+        [0x13, ..] => Part::Argument,
+        _ => return None,
+    };
+    let block = block_at(data, 1).ok()?;
+    let start = parts_end(&[part], data, block.start).ok()?;
+    let number = data.get(block.start..start)?;
+    let count = match part {
+        Part::Byte => number_of(number),
+        _ => integer_in(number)?,
+    };
+    Some((count, data.get(start..block.end)?))
+}
+
+/// Prints the name that a constant is, as it is written, or that it is no constant.
+fn print_reference(data: &[u8], out: &mut Out) {
+    match name_at(data, 0) {
+        Ok(name) if name.end == data.len() => {
+            if data.first() == Some(&b'\\') {
+                out.text("\\");
+            }
+            for _ in 0..name.ups {
+                out.text("^");
+            }
+            print_segments(data.get(name.first..).unwrap_or(&[]), out)
+        }
+        _ => out.text(".."),
+    }
+}
+
+/// Prints the address space of an operation region, its length and its offset.
+fn print_region(parts: &[u8], out: &mut Out) {
+    let [space, numbers @ ..] = parts else {
+        return;
+    };
+    match SPACES.split(' ').nth(*space as usize) {
+        Some(name) => out.text(name),
+        None => out.words("space #", &[*space as u64]),
+    }
+    let Ok(end) = parts_end(&[Part::Argument], numbers, 0) else {
+        return;
+    };
+    out.text(", ");
+    print_data(&numbers[end..], false, 0, out);
+    out.text(" bytes from ");
+    print_data(&numbers[..end], false, 0, out)
+}

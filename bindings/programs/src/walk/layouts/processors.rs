@@ -1,0 +1,378 @@
+// Made by scripts/erase of crates/acpi_dump_walk/src/layouts/processors.rt, where it is proved.
+//! Processors: their topology, their idle states, the channels to what controls the platform; and tables of
+//! Arm and RISC-V machines.
+
+/// The PPTT (ACPI 6.5, section 5.2.30), the LPIT (Intel Low Power S0 Idle), the PCCT (chapter 14), the
+/// PDTT (section 5.2.29) and the CSRT (Microsoft: Core System Resources Table).
+pub(crate) const PROCESSORS: &str = "
+= PPTT * - Processor Properties Topology Table
+36 {*} typed 0:1 1:1 PPTT-node
+
+= PPTT-node * - what each structure begins with
+0 1 - Type
+1 1 dec Length
+2 2 - Reserved
+
+= PPTT-node 0 20 Processor hierarchy node structure
+4 4 flags Flags | 0 Physical package | 1 ACPI Processor ID valid | 2 Processor is a Thread | 3 Node is a Leaf \
+    | 4 Identical Implementation
+8 4 - Parent
+12 4 dec ACPI Processor ID
+16 4 dec Number of private resources
+20 4[16:4] - Private resource
+
+= PPTT-node 1 24 Cache Type Structure
+4 4 flags Flags | 0 Size property valid | 1 Number of sets valid | 2 Associativity valid | 3 Allocation type valid \
+    | 4 Cache type valid | 5 Write policy valid | 6 Line size valid | 7 Cache ID valid
+8 4 - Next Level of Cache
+12 4 dec Size
+16 4 dec Number of sets
+20 1 dec Associativity
+if 4:4 !0x38 PPTT-unstated
+21 1 flags Attributes | 1:0/0 read allocate | 1:0/1 write allocate | 1:0/2 read and write allocate \
+    | 1:0/3 read and write allocate | 3:2/0 data | 3:2/1 instruction | 3:2/2 unified | 3:2/3 unified \
+    | 4:4/0 write back | 4:4/1 write through
+22 2 dec Line size
+24 4 - Cache ID
+
+= PPTT-unstated * - of a cache whose flags have none of the attributes as valid
+21 1 - Attributes
+
+= PPTT-node 2 30 ID structure
+4 4 text VENDOR_ID
+8 8 - LEVEL_1_ID
+16 8 - LEVEL_2_ID
+24 2 dec MAJOR_REV
+26 2 dec MINOR_REV
+28 2 dec SPIN_REV
+
+= LPIT * - Low Power Idle Table
+36 {*} typed 0:4 4:4 LPIT-state
+
+= LPIT-state * - what each structure begins with
+0 4 - Type
+4 4 dec Length
+
+= LPIT-state 0 56 Native C-state Instruction based LPI structure
+8 2 dec Unique ID
+10 2 - Reserved
+12 4 flags Flags | 0 Disabled | 1 Counter Not Available
+16 12 gas Entry Trigger
+28 4 dec Residency
+32 4 dec Latency
+36 12 gas Residency Counter
+48 8 dec Residency Counter Frequency
+
+= PCCT * - Platform Communications Channel Table
+36 4 flags Flags | 0 Platform Interrupt
+40 8 - Reserved
+48 {*} typed 0:1 1:1 PCCT-subspace
+
+= PCCT-subspace * - what each structure begins with
+0 1 - Type
+1 1 dec Length
+
+= PCCT-subspace 0 62 Generic Communications Subspace
+2 6 - Reserved
+with PCCT-memory
+
+= PCCT-memory * - memory, doorbell and timing of types 0 to 2
+8 8 - Base Address
+16 8 - Length
+24 12 gas Doorbell Register
+36 8 - Doorbell Preserve
+44 8 - Doorbell Write
+52 4 dec Nominal Latency
+56 4 dec Maximum Periodic Access Rate
+60 2 dec Minimum Request Turnaround Time
+
+= PCCT-interrupt * - interrupt of types 1 to 4
+2 4 dec Platform Interrupt
+6 1 flags Platform Interrupt Flags | 0 active low | 1 edge-triggered
+7 1 - Reserved
+
+= PCCT-subspace 1 62 HW-Reduced Communications Subspace
+with PCCT-interrupt
+with PCCT-memory
+
+= PCCT-subspace 2 90 HW-Reduced Communications Subspace Type 2
+with PCCT-interrupt
+with PCCT-memory
+62 12 gas Platform Interrupt Ack Register
+74 8 - Platform Interrupt Ack Preserve
+82 8 - Platform Interrupt Ack Write
+
+= PCCT-subspace 3 164 Extended PCC Subspace, initiator
+with PCCT-extended
+
+= PCCT-subspace 4 164 Extended PCC Subspace, responder
+with PCCT-extended
+
+= PCCT-extended * - types 3 and 4
+with PCCT-interrupt
+8 8 - Base Address
+16 4 - Memory Range Length
+20 12 gas Doorbell Register
+32 8 - Doorbell Preserve
+40 8 - Doorbell Write
+48 4 dec Nominal Latency
+52 4 dec Maximum Periodic Access Rate
+56 4 dec Minimum Request Turnaround Time
+60 12 gas Platform Interrupt Ack Register
+72 8 - Platform Interrupt Ack Preserve
+80 8 - Platform Interrupt Ack Set Mask
+88 8 - Reserved
+96 12 gas Command Complete Check Register Address
+108 8 - Command Complete Check Mask
+116 12 gas Command Update Register Address
+128 8 - Command Update Preserve mask
+136 8 - Command Update Set mask
+144 12 gas Error Status Register
+156 8 - Error Status Mask
+
+= PCCT-subspace 5 96 HW Registers based Communications Subspace
+2 2 - Version
+4 8 - Base Address
+12 8 - Shared Memory Range Length
+20 12 gas Doorbell Register
+32 8 - Doorbell Preserve
+40 8 - Doorbell Write
+48 12 gas Command Complete Check Register
+60 8 - Command Complete Check Mask
+68 12 gas Error Status Register
+80 8 - Error Status Mask
+88 4 dec Nominal Latency
+92 4 dec Minimum Request Turnaround Time
+
+= PDTT * - Platform Debug Trigger Table
+36 1 dec Trigger Count
+37 3 - Reserved
+40 4 dec Trigger Identifier Array Offset
+40:4 {36:1} each 2 PDTT-trigger
+
+= PDTT-trigger * - PDTT Platform Communication Channel Identifier
+0 1 - PDTT PCC Sub Channel Identifier
+1 1 flags Flags | 0 Runtime | 1 Wait for Completion | 2 Trigger Order
+
+= CSRT * - Core System Resources Table
+36 {*} own 0:4 CSRT-group
+
+= CSRT-group * 24 Resource Group
+0 4 dec Length
+4 4 text Vendor ID
+8 4 - Subvendor ID
+12 2 - Device ID
+14 2 - Subdevice ID
+16 2 - Revision
+18 2 - Reserved
+20 4 dec Shared Info Length
+if 20:4 28 CSRT-dma
+if 20:4 0-27 CSRT-shared
+if 20:4 29-0xffffffff CSRT-shared
+> {*} own 0:4 CSRT-descriptor
+
+= CSRT-dma * - shared information of DMA controllers
+24 2 - Major Version
+26 2 - Minor Version
+28 4 - MMIO Base Address Low
+32 4 - MMIO Base Address High
+36 4 dec GSI Interrupt
+40 1 - Interrupt Polarity
+41 1 - Interrupt Mode
+42 1 dec Number of Channels
+43 1 dec DMA Address Width
+44 2 dec Base Request Line
+46 2 dec Number of Handshake Signals
+48 4 dec Maximum Block Transfer Size
+
+= CSRT-shared * - other shared information
+24 20:4 - Shared Info
+
+= CSRT-descriptor * 12 Resource Descriptor
+0 4 dec Length
+4 2 codes Type | 1 interrupt | 2 timer | 3 DMA
+6 2 - Subtype
+8 4 text UID
+";
+
+/// Tables of Arm machines: the AEST (Arm DEN0085, revision 1), the AGDI (Arm DEN0093), the APMT (Arm DEN0117), the
+/// MPAM (Arm DEN0065, 2.0) and the SDEI (Arm DEN0054, which has no fields); and the RHCT of RISC-V (RISC-V Hart
+/// Capabilities Table, ACPI 6.6).
+pub(crate) const MACHINES: &str = "
+= SDEI * - Software Delegated Exceptions Interface Table
+
+= AEST * - Arm Error Source Table
+36 {*} typed 0:1 1:2 AEST-node
+
+= AEST-node * - what each node begins with
+0 1 - Type
+1 2 dec Length
+3 1 - Reserved
+4 4 dec Offset to node-specific data
+8 4 dec Offset to node interface
+12 4 dec Offset to node interrupt array
+16 4 dec Node interrupt array size
+20 8 dec Timestamp rate
+28 8 - Reserved
+36 8 dec Error injection countdown rate
+
+= AEST-node 0 44 Processor error node
+4:4 {1} each 16 AEST-processor
+with AEST-rest
+
+= AEST-processor * - Processor node data
+0 4 dec ACPI Processor ID
+4 1 codes Resource type | 0 cache | 1 TLB | 2 generic
+5 1 - Reserved
+6 1 flags Flags | 0 Global | 1 Shared
+7 1 - Revision
+8 8 - Processor affinity
+
+= AEST-node 1 44 Memory error node
+4:4 {1} each 4 AEST-memory
+with AEST-rest
+
+= AEST-memory * - Memory controller node data
+0 4 dec Proximity Domain
+
+= AEST-node 2 44 SMMU error node
+4:4 {1} each 8 AEST-smmu
+with AEST-rest
+
+= AEST-smmu * - SMMU node data
+0 4 - IORT node reference
+4 4 - Subcomponent reference
+
+= AEST-node 3 44 Vendor-defined error node
+4:4 {1} each 24 AEST-vendor
+with AEST-rest
+
+= AEST-vendor * - Vendor-defined node data
+0 4 - Hardware ID
+4 4 - Unique ID
+8 16 - Vendor-specific data
+
+= AEST-node 4 44 GIC error node
+4:4 {1} each 8 AEST-gic
+with AEST-rest
+
+= AEST-gic * - GIC node data
+0 4 codes Interface type | 0 GIC CPU | 1 GIC Distributor | 2 GIC Redistributor | 3 GIC ITS
+4 4 - Instance identifier
+
+= AEST-rest * - interface and interrupts of a node
+8:4 {1} each 48 AEST-interface
+12:4 {16:4} each 12 AEST-interrupt
+
+= AEST-interface * - Node interface
+0 1 codes Interface Type | 0 System register | 1 Memory-mapped
+1 3 - Reserved
+4 4 flags Flags | 0 Shared interface | 1 Clear MISCx after an error is handled
+8 8 - Base address
+16 4 dec Start error record index
+20 4 dec Number of error records
+24 8 - Error records implemented
+32 8 - Error group-based status reporting supported
+40 8 - Addressing mode
+
+= AEST-interrupt * - Node interrupt
+0 1 codes Interrupt type | 0 Fault Handling Interrupt | 1 Error Recovery Interrupt
+1 2 - Reserved
+3 1 flags Interrupt flags | 0 level-triggered
+4 4 dec Interrupt GSIV
+8 1 - ID
+9 3 - Reserved
+
+= AGDI * - Arm Generic Diagnostic Dump and Reset Device Interface
+36 1 flags Flags | 0 signalled by an interrupt
+37 3 - Reserved
+40 4 dec SDEI Event Number
+44 4 dec GSIV
+
+= APMT * - Arm Performance Monitoring Unit Table
+36 {*} own 0:2 APMT-node
+
+= APMT-node * 56 Performance Monitoring Unit node
+0 2 dec Node length
+2 1 flags Node flags | 0 Dual-page extension | 1 Processor affinity is of a container | 2 64-bit single-copy atomic
+3 1 codes Node type | 0 Memory controller | 1 SMMU | 2 PCIe root complex | 3 ACPI device | 4 CPU cache
+4 4 - Identifier
+8 8 - Node instance primary
+16 4 - Node instance secondary
+20 8 - Base address 0
+28 8 - Base address 1
+36 4 dec Overflow interrupt
+40 4 - Reserved
+44 4 flags Overflow interrupt flags | 0 edge-triggered
+48 4 - Processor affinity
+52 4 - Implementation ID
+
+= MPAM * - Memory System Resource Partitioning and Monitoring Table
+36 {*} own 0:2 MPAM-node
+
+= MPAM-node * 72 Memory System Component (MSC) node
+0 2 dec Length
+2 1 codes Interface type | 0 memory-mapped | 10 PCC
+3 1 - Reserved
+4 4 - Identifier
+8 8 - Base address
+16 4 dec MMIO size
+20 4 dec Overflow interrupt
+24 4 - Overflow interrupt flags
+28 4 - Reserved
+32 4 - Overflow interrupt affinity
+36 4 dec Error interrupt
+40 4 - Error interrupt flags
+44 4 - Reserved
+48 4 - Error interrupt affinity
+52 4 dec MAX_NRDY_USEC
+56 8 text Hardware ID of linked device
+64 4 - Instance ID of linked device
+68 4 dec Number of resource nodes
+72 {68:4} own 24+8*20:4 MPAM-resource
+
+= MPAM-resource * 24 Resource node
+0 4 - Identifier
+4 1 dec RIS Index
+5 2 - Reserved
+7 1 codes Locator type | 0 Processor cache | 1 Memory | 2 SMMU | 3 Memory cache | 4 ACPI device | 5 Interconnect \
+    | 0xff Unknown
+8 12 - Locator
+20 4 dec Number of functional dependencies
+24 {20:4} each 8 MPAM-dependency
+
+= MPAM-dependency * - Functional dependency
+0 4 - Producer
+4 4 - Reserved
+
+= RHCT * - RISC-V Hart Capabilities Table
+36 4 flags Flags | 0 Timer cannot wake the processor
+40 8 dec Time Base Frequency
+48 4 dec Number of RHCT nodes
+52 4 - Offset to the RHCT node array
+52:4 {48:4} typed 0:2 2:2 RHCT-node
+
+= RHCT-node * - what each node begins with
+0 2 - Type
+2 2 dec Length
+4 2 - Revision
+
+= RHCT-node 0 8 ISA String Node
+6 2 dec ISA Length
+8 6:2 text ISA string
+
+= RHCT-node 1 10 Cache Management Operation (CMO) Extension Node
+6 1 - Reserved
+7 1 dec CBOM Block size
+8 1 dec CBOP Block size
+9 1 dec CBOZ Block size
+
+= RHCT-node 2 8 MMU Node
+6 1 - Reserved
+7 1 codes MMU Type | 0 Sv39 | 1 Sv48 | 2 Sv57
+
+= RHCT-node 0xffff 12 Hart Info Node
+6 2 dec Number of Offsets
+8 4 dec ACPI Processor UID
+12 4[6:2] - Offset
+";

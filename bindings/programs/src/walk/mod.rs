@@ -1,0 +1,23 @@
+// Made by scripts/erase of crates/acpi_dump_walk/src/lib.rt, where it is proved.
+//! A walk over the bytes of a table by the layout of its type, and over the objects of AML: what there is, in the order
+//! of the bytes, and how a field is printed.
+//!
+//! Every function returns for every input, without fault. What is shown is tested, and not proved.
+
+#![forbid(unsafe_code)]
+// What contracts alone use.
+#![allow(dead_code, unused_imports, unused_labels, unused_variables)]
+// It is written as it is proved.
+#![allow(clippy::style, clippy::complexity, clippy::perf, clippy::manual_unwrap_or_default)]
+
+pub mod aml;
+pub mod fault;
+pub mod fields;
+pub mod hex;
+pub mod language;
+pub mod layouts;
+pub mod matrix;
+pub mod out;
+pub mod share;
+pub mod text;
+pub mod walk;

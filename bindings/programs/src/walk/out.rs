@@ -1,0 +1,144 @@
+// Made by scripts/erase of crates/acpi_dump_walk/src/out.rt, where it is proved.
+//! What is printed, piece by piece, without asking after each piece whether memory sufficed for it.
+
+use crate::rattle::Vec;
+use crate::rattle::alloc::{AllocError, Global};
+use crate::rattle::io;
+use crate::rattle::io::Write;
+use core::fmt::Display;
+
+/// A text that gets nothing more after memory for a piece was refused.
+pub struct Out {
+    bytes: Vec<u8>,
+    is_refused: bool,
+    alloc: Global,
+}
+
+impl Out {
+    /// No text.
+    pub fn new(alloc: Global) -> Out {
+        Out { bytes: Vec::new(alloc), is_refused: false, alloc }
+    }
+
+    /// Prints a piece: what `write!` and `writeln!` call.
+    pub fn write_fmt<D: Display>(&mut self, piece: D) {
+        if !self.is_refused {
+            self.is_refused = self.bytes.write_fmt(piece).is_err();
+        }
+    }
+
+    /// Prints what another one has, which is no whole either if that isn't.
+    pub fn append(&mut self, other: &Out) {
+        self.is_refused |= other.is_refused;
+        self.bytes(&other.bytes);
+    }
+
+    /// Takes back what was printed, but not that memory was refused.
+    pub fn clear(&mut self) {
+        self.bytes.clear();
+    }
+
+    /// Prints a text.
+    pub fn text(&mut self, text: &str) {
+        self.bytes(text.as_bytes());
+    }
+
+    /// Prints bytes as they are.
+    pub fn bytes(&mut self, bytes: &[u8]) {
+        if !self.is_refused {
+            self.is_refused = self.bytes.extend_from_slice(bytes).is_err();
+        }
+    }
+
+    /// Prints bytes, each one that isn't printable ASCII as `\x1b`.
+    pub fn escaped(&mut self, bytes: &[u8]) {
+        for byte in bytes {
+            if (0x20..0x7f).contains(byte) {
+                self.bytes(&[*byte]);
+            } else {
+                write!(self, "\\x{byte:02x}");
+            }
+        }
+    }
+
+    /// Prints what a value is, each byte that isn't printable ASCII as `\x1b`.
+    pub fn value<D: Display>(&mut self, value: &D) {
+        let mut text = Out::new(self.alloc);
+        write!(text, "{value}");
+        self.is_refused |= text.is_refused;
+        self.escaped(&text.bytes);
+    }
+
+    /// Prints words, with the next number in place of each `#` (in hexadecimal digits) and `%` (in decimal ones).
+    pub fn words(&mut self, words: &str, numbers: &[u64]) {
+        let mut rest = numbers;
+        for letter in words.as_bytes() {
+            match (*letter, rest) {
+                (b'#', [number, others @ ..]) => {
+                    write!(self, "0x{number:x}");
+                    rest = others;
+                }
+                (b'%', [number, others @ ..]) => {
+                    write!(self, "{number}");
+                    rest = others;
+                }
+                _ => self.bytes(&[*letter]),
+            }
+        }
+    }
+
+    /// Prints words, with the next text in place of each `$`.
+    pub fn fill(&mut self, words: &str, texts: &[&str]) {
+        let mut rest = texts;
+        for letter in words.as_bytes() {
+            match (*letter, rest) {
+                (b'$', [text, others @ ..]) => {
+                    self.text(*text);
+                    rest = others;
+                }
+                _ => self.bytes(&[*letter]),
+            }
+        }
+    }
+
+    /// Keeps that memory for a piece was refused.
+    pub fn refuse(&mut self) {
+        self.is_refused = true;
+    }
+
+    /// Its allocator.
+    pub fn allocator(&self) -> Global {
+        self.alloc
+    }
+
+    /// How many bytes were printed.
+    pub fn length(&self) -> usize {
+        self.bytes.len()
+    }
+
+    /// What was printed after the first `start` bytes.
+    pub fn since(&self, start: usize) -> &[u8] {
+        self.bytes.get(start..).unwrap_or(&[])
+    }
+
+    /// What was printed, if memory sufficed for it.
+    pub fn printed(&self) -> Option<&str> {
+        if self.is_refused {
+            return None;
+        }
+        str::from_utf8(&self.bytes).ok()
+    }
+
+    /// Writes what was printed, and flushes the writer, also if it refused that.
+    ///
+    /// Fails with the error of the write, or else of the flush, or if memory for a piece was refused.
+    pub fn write_to<W: Write>(&self, mut writer: W) -> io::Result<()> {
+        let written = writer.write_all(&self.bytes);
+        let flushed = writer.flush();
+        written.and(flushed)?;
+        if self.is_refused {
+            return Err(io::Error::from(AllocError));
+        }
+        Ok(())
+    }
+}
