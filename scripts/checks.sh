@@ -39,7 +39,7 @@ has_rust() {
 
 # Has cargo take the crates of others from Debian's packages wherever it is run below $made, if they are there.
 crates_of_debian() {
-    for crate in clap serde_json strsim; do
+    for crate in clap clap_complete serde_json strsim; do
         ls -d /usr/share/cargo/registry/$crate-[0-9]* >/dev/null 2>&1 || return 1
     done
     mkdir -p "$made/.cargo" && cat >"$made/.cargo/config.toml" <<'END'

@@ -10,6 +10,8 @@ MODULES = {'acpi_cli': 'cli', 'acpi_image_reader': 'image_reader', 'acpi_image':
            'acpi_pack_lib': 'pack', 'acpi_dump_walk': 'walk', 'acpi_dump_input': 'input', 'acpi_dump_check': 'check',
            'acpi_dump_compare': 'compare', 'acpi_dump_page': 'page', 'acpi_dump_lib': 'dump'}
 PROGRAMS = ['acpi_dump', 'acpi_view', 'acpi_pack']
+# What the package's root looks at, in the crate whose own it is.
+OPENED = ('dump/mod.rs', 'mod options;', 'pub(crate) mod options;')
 # Where the package has what is of Rattle's libraries.
 RATTLE = {'clap': 'arguments', 'json': 'json'}
 STD = ['alloc', 'collections', 'vec', 'string', 'boxed', 'num', 'io', 'fs', 'env', 'process', 'os', 'rt']
@@ -65,6 +67,8 @@ def programs(erase):
             is_root = path.name == 'lib.rt'
             to = erase.Path(module, 'mod.rs' if is_root else path.with_suffix('.rs'))
             text = text_of(erase, crate, path, module, 'crate', erase.HEAD if is_root else '')
+            if str(to) == OPENED[0]:
+                text = text.replace(*OPENED[1:])
             made[to] = erase.MADE.format(f'{crate}/src/{path}') + text
     for name in PROGRAMS:
         text = text_of(erase, name, 'main.rt', '', 'acpi_dump', '#![forbid(unsafe_code)]\n#![allow(unused_imports)]\n')
@@ -75,9 +79,9 @@ def programs(erase):
 def copy_packages(erase, folder):
     """Copies the packages, the library's with the fields of structs in the order of the source, since some rows count a
     heap's bytes."""
-    left = shutil.ignore_patterns('target', 'tests', 'examples', 'bare', 'Cargo.lock')
-    for name in ('rust', 'programs'):
-        shutil.copytree(erase.ROOT / 'bindings' / name, folder / name, ignore=left)
+    for name, left in (('rust', ['tests', 'examples']), ('programs', [])):
+        shutil.copytree(erase.ROOT / 'bindings' / name, folder / name,
+                        ignore=shutil.ignore_patterns('target', 'Cargo.lock', *left))
         toml = folder / name / 'Cargo.toml'
         toml.write_text(toml.read_text().replace('[workspace]\n', ''))
     for path in (folder / 'rust/src').rglob('*.rs'):

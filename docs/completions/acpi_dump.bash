@@ -1,24 +1,90 @@
-# Completes the options of acpi_dump in bash: source this file.
 _acpi_dump() {
-    local word=${COMP_WORDS[COMP_CWORD]} before=${COMP_WORDS[COMP_CWORD - 1]}
-    case $before in
-        --as) COMPREPLY=($(compgen -W "image memory text table" -- "$word")) ;;
-        --color) COMPREPLY=($(compgen -W "auto always never" -- "$word")) ;;
-        --start) COMPREPLY=($(compgen -W "rsdt: rsdp: bios" -- "$word")) ;;
-        --at | --max-bytes | --ignore) COMPREPLY=() ;;
-        -o | --extract) COMPREPLY=($(compgen -d -- "$word")) ;;
-        --html) COMPREPLY=($(compgen -f -- "$word")) ;;
-        -t | --table | --hex)
-            local first=
-            [[ $word == *,* ]] && first=${word%,*},
-            COMPREPLY=($(compgen -P "$first" -W "all APIC DSDT FACP FACS HPET MCFG SPCR SRAT SSDT" -- "${word##*,}"))
-            ;;
-        *)
-            case $word in
-                -*) COMPREPLY=($(compgen -W "--as --at --start --table --hex --text --extract --html --force --summary --find --check --check= --rules --compare --exit-code --ignore --json --strict --max-bytes --color --help --version" -- "$word")) ;;
-                *) COMPREPLY=($(compgen -f -- "$word")) ;;
+    local i cur prev opts cmds
+    COMPREPLY=()
+    cur="${COMP_WORDS[COMP_CWORD]}"
+    prev="${COMP_WORDS[COMP_CWORD-1]}"
+    cmd=""
+    opts=""
+
+    for i in ${COMP_WORDS[@]}
+    do
+        case "${cmd},${i}" in
+            ",$1")
+                cmd="acpi_dump"
+                ;;
+            *)
+                ;;
+        esac
+    done
+
+    case "${cmd}" in
+        acpi_dump)
+            opts="-c -j -h -V -t -o --at --start --text --force --summary --find --rules --compare --exit-code --ignore --json --strict --max-bytes --help --version --as --table --hex --color --check --extract --html [INPUT]..."
+            if [[ ${cur} == -* || ${COMP_CWORD} -eq 1 ]] ; then
+                COMPREPLY=( $(compgen -W "${opts}" -- "${cur}") )
+                return 0
+            fi
+            case "${prev}" in
+                --at)
+                    COMPREPLY=($(compgen -f "${cur}"))
+                    return 0
+                    ;;
+                --start)
+                    COMPREPLY=($(compgen -f "${cur}"))
+                    return 0
+                    ;;
+                --ignore)
+                    COMPREPLY=($(compgen -f "${cur}"))
+                    return 0
+                    ;;
+                --max-bytes)
+                    COMPREPLY=($(compgen -f "${cur}"))
+                    return 0
+                    ;;
+                --as)
+                    COMPREPLY=($(compgen -W "image memory text table" -- "${cur}"))
+                    return 0
+                    ;;
+                --table)
+                    COMPREPLY=($(compgen -W "all APIC DSDT FACP FACS HPET MCFG SPCR SRAT SSDT" -- "${cur}"))
+                    return 0
+                    ;;
+                -t)
+                    COMPREPLY=($(compgen -W "all APIC DSDT FACP FACS HPET MCFG SPCR SRAT SSDT" -- "${cur}"))
+                    return 0
+                    ;;
+                --hex)
+                    COMPREPLY=($(compgen -W "all APIC DSDT FACP FACS HPET MCFG SPCR SRAT SSDT" -- "${cur}"))
+                    return 0
+                    ;;
+                --color)
+                    COMPREPLY=($(compgen -W "auto always never" -- "${cur}"))
+                    return 0
+                    ;;
+                --check)
+                    COMPREPLY=($(compgen -W "error warning note" -- "${cur}"))
+                    return 0
+                    ;;
+                --extract)
+                    COMPREPLY=($(compgen -f "${cur}"))
+                    return 0
+                    ;;
+                -o)
+                    COMPREPLY=($(compgen -f "${cur}"))
+                    return 0
+                    ;;
+                --html)
+                    COMPREPLY=($(compgen -f "${cur}"))
+                    return 0
+                    ;;
+                *)
+                    COMPREPLY=()
+                    ;;
             esac
+            COMPREPLY=( $(compgen -W "${opts}" -- "${cur}") )
+            return 0
             ;;
     esac
 }
-complete -o filenames -F _acpi_dump acpi_dump
+
+complete -F _acpi_dump -o bashdefault -o default acpi_dump

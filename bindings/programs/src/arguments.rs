@@ -124,20 +124,16 @@ impl<'a> Command<'a> {
     }
 
     /// The crate's own command, with the options that each program has.
-    pub fn built(&self) -> clap::Command {
+    pub fn to_command(&self) -> clap::Command {
         let of = |id: &'static str, letter| clap::Arg::new(id).long(id).short(letter);
-        let mut command = self
-            .0
-            .clone()
-            .arg(of("help", 'h').action(clap::ArgAction::Help).help("Print help"))
-            .arg(of("version", 'V').action(clap::ArgAction::Version).help("Print version"));
-        command.build();
-        command
+        let help = of("help", 'h').action(clap::ArgAction::Help).help("Print help");
+        self.0.clone().arg(help).arg(of("version", 'V').action(clap::ArgAction::Version).help("Print version"))
     }
 
     /// What the words are, of which each is copied.
     pub fn try_get_matches_from<'w>(&self, words: &[&'w str]) -> Result<ArgMatches<'w>, Error> {
-        let mut command = self.built();
+        let mut command = self.to_command();
+        command.build();
         match command.try_get_matches_from_mut(words) {
             Ok(found) => Ok(ArgMatches::of(&command, &found)),
             Err(error) => Err(told(&command, &error).unwrap_or_else(|_| Error(ErrorKind::OutOfMemory, String::new()))),

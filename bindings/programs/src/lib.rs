@@ -18,3 +18,8 @@ pub mod walk;
 pub mod arguments;
 pub mod json;
 pub mod rattle;
+
+/// The options of acpi_dump, for what completes them.
+pub fn options() -> clap::Command {
+    dump::options::command(rattle::alloc::Global).map(|command| command.to_command()).unwrap_or_default()
+}

@@ -15,7 +15,7 @@ mod contents;
 mod document;
 mod getters;
 mod listing;
-mod options;
+pub(crate) mod options;
 mod paint;
 pub mod run;
 mod summary;

@@ -1,0 +1,33 @@
+//! Writes what completes the options of acpi_dump in shells to a folder, by `clap_complete`. docs/completions is one.
+use clap::ValueHint;
+use clap_complete::Shell;
+use std::path::PathBuf;
+
+/// What the values of options are: words for some, and files and folders.
+const WORDS: [(&str, &[&str]); 5] = [
+    ("as", &["image", "memory", "text", "table"]),
+    ("table", &["all", "APIC", "DSDT", "FACP", "FACS", "HPET", "MCFG", "SPCR", "SRAT", "SSDT"]),
+    ("hex", &["all", "APIC", "DSDT", "FACP", "FACS", "HPET", "MCFG", "SPCR", "SRAT", "SSDT"]),
+    ("check", &["error", "warning", "note"]),
+    ("color", &["auto", "always", "never"]),
+];
+const HINTS: [(&str, ValueHint); 3] =
+    [("extract", ValueHint::DirPath), ("html", ValueHint::FilePath), ("input", ValueHint::AnyPath)];
+
+fn main() -> std::io::Result<()> {
+    let folder = PathBuf::from(std::env::args_os().nth(1).unwrap_or_else(|| ".".into()));
+    let mut command = acpi_dump::options().no_binary_name(false);
+    for (option, words) in WORDS {
+        command = command.mut_arg(option, |arg| arg.value_parser(words.to_vec()));
+    }
+    // Without a value it is the same as with the last of its words, and not with none, which is no word.
+    command = command.mut_arg("check", |arg| arg.default_missing_value("note"));
+    command = command.mut_arg("input", |arg| arg.num_args(1..));
+    for (option, hint) in HINTS {
+        command = command.mut_arg(option, |arg| arg.value_hint(hint));
+    }
+    for shell in [Shell::Bash, Shell::Zsh, Shell::Fish, Shell::PowerShell] {
+        clap_complete::generate_to(shell, &mut command, "acpi_dump", &folder)?;
+    }
+    Ok(())
+}
