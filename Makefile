@@ -6,8 +6,8 @@
 #   make check              calls of it by programs of examples/c and tests/c; elsewhere RUN=qemu-arm LDFLAGS=-static
 #   make install            the headers, zacpi.c, zacpi-subset, both archives, what leads pkg-config and CMake to them,
 #                           examples
-#   make acpi_dump          out/acpi_dump, the program, for Linux, BSD and macOS on x86-64 and AArch64
-#   make install-programs   acpi_dump, or the programs in $(PROGRAMS), with their manual pages and completions
+#   make acpi_dump          out/acpi_dump, acpi_view and acpi_pack, the programs, by cargo, for TARGET if one is named
+#   make install-programs   these, or the programs in $(PROGRAMS), with their manual pages and completions
 #   make uninstall          removes what both have installed
 #
 # CC, AR, CFLAGS, LDFLAGS, PREFIX, LIBDIR and DESTDIR are the usual ones. OUT=FOLDER takes the place of out.
@@ -32,6 +32,7 @@ SHARE = $(DESTDIR)$(PREFIX)/share
 DOC = $(SHARE)/doc/zacpi
 RUN ?=
 OUT ?= out
+NAMES = acpi_dump acpi_view acpi_pack
 PROGRAMS ?= $(OUT)
 INSTALL = install -m 644
 
@@ -44,15 +45,17 @@ $(OUT)/lib%.a: dist/zacpi.c $(wildcard include/*.h)
 	@rm -f $@
 	$(AR) rcs $@ $(OUT)/$*.o
 
-# Assembly of what is proved, and what calls the C library for it. It is for ELF; macOS has Mach-O.
+# The package of the programs (bindings/programs).
 acpi_dump: $(OUT)/acpi_dump
-DUMP = dist/acpi_dump-$(PROCESSOR).s
-$(OUT)/acpi_dump: $(if $(findstring apple,$(MACHINE)),$(OUT)/acpi_dump.s,$(DUMP)) bindings/posix/host.c
-	@mkdir -p $(OUT)
-	$(CC) $(CFLAGS) $^ $(LDFLAGS) -s -o $@
-$(OUT)/acpi_dump.s: $(DUMP) scripts/mach_o.awk
-	@mkdir -p $(OUT)
-	awk -f scripts/mach_o.awk $< $< >$@
+CARGO ?= cargo
+RUST = $(shell sed -n 's/^rust-version = "\(.*\)"/\1/p' bindings/programs/Cargo.toml)
+$(OUT)/acpi_dump: $(wildcard bindings/*/Cargo.toml) $(shell find bindings/rust/src bindings/programs/src -name '*.rs')
+	@$(CARGO) --version 2>/dev/null | awk -v least=$(RUST) '{ split($$2, has, "."); split(least, needs, "."); \
+	    new = has[1] > needs[1] || has[1] == needs[1] && has[2] + 0 >= needs[2] + 0 } END { exit !new }' || \
+	    { echo "the programs need cargo $(RUST) or later, which isn't there: https://rustup.rs has it" >&2; exit 1; }
+	$(CARGO) build --release --manifest-path bindings/programs/Cargo.toml --target-dir $(OUT)/cargo \
+	    $(if $(TARGET),--target $(TARGET))
+	cp $(NAMES:%=$(OUT)/cargo/$(if $(TARGET),$(TARGET)/)release/%) $(OUT)
 
 LINKED = $(CC) -std=c99 $(CFLAGS) -Iinclude $(1) $(OUT)/libzacpi.a $(LDFLAGS) -o $(OUT)/$(2)
 check: $(OUT)/libzacpi.a
@@ -77,24 +80,24 @@ install: $(OUT)/libzacpi.a $(OUT)/libzacpi-kernel.a
 	    scripts/zacpi-config-version.cmake.in >$(DESTDIR)$(LIBDIR)/cmake/zacpi/zacpi-config-version.cmake
 	$(INSTALL) LICENSE dist/THIRD-PARTY docs/C.md $(DOC)
 	$(INSTALL) examples/c/*.[ch] $(DOC)/examples
-# Of these in $(PROGRAMS) the ones that are there. Where that is $(OUT), acpi_dump is made first.
-NAMES = acpi_dump acpi_view acpi_pack
+# Of these in $(PROGRAMS) the ones that are there. Where that is $(OUT), they are made first.
 install-programs: $(filter $(OUT)/acpi_dump,$(PROGRAMS)/acpi_dump)
 	mkdir -p $(DESTDIR)$(PREFIX)/bin $(SHARE)/man/man1 $(SHARE)/bash-completion/completions \
-	    $(SHARE)/zsh/site-functions $(DOC)
+	    $(SHARE)/zsh/site-functions $(SHARE)/fish/vendor_completions.d $(DOC)
 	for name in $(NAMES); do [ ! -e $(PROGRAMS)/$$name ] || { there=yes && \
 	    install -m 755 $(PROGRAMS)/$$name $(DESTDIR)$(PREFIX)/bin && \
 	    $(INSTALL) docs/$$name.1 $(SHARE)/man/man1; } || exit 1; done; \
 	    [ "$$there" = yes ] || { echo "$(PROGRAMS) has none of $(NAMES)" >&2 && exit 1; }
 	$(INSTALL) docs/completions/acpi_dump.bash $(SHARE)/bash-completion/completions/acpi_dump
 	$(INSTALL) docs/completions/_acpi_dump $(SHARE)/zsh/site-functions
-	$(INSTALL) LICENSE dist/THIRD-PARTY docs/acpi_dump.schema.json $(DOC)
+	$(INSTALL) docs/completions/acpi_dump.fish $(SHARE)/fish/vendor_completions.d
+	$(INSTALL) LICENSE dist/THIRD-PARTY docs/acpi_dump.schema.json docs/completions/_acpi_dump.ps1 $(DOC)
 uninstall:
 	rm -rf $(DESTDIR)$(LIBDIR)/cmake/zacpi $(DOC)
 	rm -f $(addprefix $(DESTDIR)$(LIBDIR)/,libzacpi.a libzacpi-kernel.a pkgconfig/zacpi.pc pkgconfig/zacpi-kernel.pc) \
 	    $(addprefix $(DESTDIR)$(PREFIX)/,$(wildcard include/*.h) include/zacpi.c bin/zacpi-subset $(NAMES:%=bin/%)) \
 	    $(NAMES:%=$(SHARE)/man/man1/%.1) $(SHARE)/bash-completion/completions/acpi_dump \
-	    $(SHARE)/zsh/site-functions/_acpi_dump
+	    $(SHARE)/zsh/site-functions/_acpi_dump $(SHARE)/fish/vendor_completions.d/acpi_dump.fish
 clean:
 	rm -rf $(OUT)
 .PHONY: all kernel acpi_dump check install install-programs uninstall clean
