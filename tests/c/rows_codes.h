@@ -24,6 +24,7 @@ static const struct spot {
     SPOT(reset, 116, 0, 0, {0xcf9, 1, 8, 0, 1}, 0), SPOT(sleep_control, 244, 0, 0, {0x660, 1, 8, 0, 1}, 0),
     SPOT(sleep_status, 256, 0, 0, {0x661, 1, 8, 0, 1}, 0)};
 enum { PM1A_CONTROL = 2, PM1B_CONTROL = 3, PM_TIMER = 5, RESET = 8, SLEEP_CONTROL_AT = 9, FADT_SIZE = 276,
+       SPCR_SIZE = 90,
        SPOTS = sizeof spots / sizeof *spots };
 
 static void sum_up(uint8_t *bytes, size_t length) { bytes[9] = (uint8_t)(bytes[9] - zacpi_byte_sum(bytes, length)); }
@@ -49,23 +50,28 @@ static int is_code(size_t byte, unsigned code) { return byte ? is_access_size(co
 
 /* ---- Read ------------------------------------------------------------------------------------------------ */
 
-/* A machine of an RSDT, a FADT, and a DSDT that has S5 with 5 and 6; bytes of it change, and stay where they are. */
-static uint8_t coded_bytes[3][FADT_SIZE], *coded_fadt;
+/* A machine of an RSDT, a FADT, an SPCR, and a DSDT that has S5 with 5 and 6; bytes of it change, and stay where they
+ * are, and so may the FADT's length. */
+static uint8_t coded_bytes[4][FADT_SIZE], *coded_fadt, *coded_spcr;
+static struct zacpi_region *coded_regions;
 static struct zacpi_source coded;
 static void lay_coded(void) {
-    static const uint8_t rsdt[] = {'R', 'S', 'D', 'T', 40, 0, 0, 0, 1, [37] = 0x20};
+    static const uint8_t rsdt[] = {'R', 'S', 'D', 'T', 44, 0, 0, 0, 1, [37] = 0x20, [41] = 0x40};
     static const uint8_t dsdt[] = {'D', 'S', 'D', 'T', 48, 0, 0, 0, 2, [36] = 0x08, '_', 'S', '5', '_', 0x12, 6, 2,
                                    0x0a, 5, 0x0a, 6};
-    static struct zacpi_region regions[] = {
-        {0x1000, coded_bytes[0], 40}, {0x2000, coded_bytes[1], FADT_SIZE}, {0x3000, coded_bytes[2], 48}};
-    memcpy(coded_bytes[0], rsdt, sizeof rsdt), sum_up(coded_bytes[0], 40);
+    static struct zacpi_region regions[] = {{0x1000, coded_bytes[0], 44}, {0x2000, coded_bytes[1], FADT_SIZE},
+                                            {0x3000, coded_bytes[2], 48}, {0x4000, coded_bytes[3], SPCR_SIZE}};
+    memcpy(coded_bytes[0], rsdt, sizeof rsdt), sum_up(coded_bytes[0], 44);
+    memcpy(coded_bytes[3], pc_spcr_bytes, SPCR_SIZE);
     memcpy(coded_bytes[2], dsdt, sizeof dsdt), sum_up(coded_bytes[2], 48);
     lay_every_register(coded_bytes[1]);
     put(coded_bytes[1] + 40, 4, 0x3000), put(coded_bytes[1] + 140, 8, 0); /* DSDT, X_DSDT */
     sum_up(coded_bytes[1], FADT_SIZE);
-    coded.regions = all_at_edge(regions, 3), coded.regions_length = 3;
+    coded.regions = all_at_edge(regions, 4), coded.regions_length = 4;
     coded.address = 0x1000, coded.start = ZACPI_START_RSDT;
-    memcpy(&coded_fadt, &coded.regions[1].bytes, sizeof coded_fadt);
+    coded_regions = edge == NO_EDGE ? regions : (void *)(uintptr_t)coded.regions;
+    coded_fadt = (uint8_t *)(uintptr_t)coded_regions[1].bytes;
+    coded_spcr = (uint8_t *)(uintptr_t)coded_regions[3].bytes;
 }
 
 /* What a call of them writes. */
@@ -97,16 +103,20 @@ static const struct reader {
     READS(power_off, plan, PM1A_CONTROL, steps[0].at, 0), READS(power_off, plan, PM1B_CONTROL, steps[1].at, 0),
     READS(sleep, plan, PM1A_CONTROL, steps[0].at, 0), READS(sleep, plan, PM1B_CONTROL, steps[1].at, 0),
     READS(sleep, plan, SLEEP_CONTROL_AT, steps[0].at, 1)};
+/* Of 124 bytes, the last of which are the first half of the Address of RESET_REG. */
+static const struct reader front_reader = READS(reset, plan, RESET, steps[0].at, 0);
 
 static void check_coded(const struct reader *reader, zacpi_status status, size_t place, unsigned value) {
     zacpi_status got;
-    sum_up(coded_fadt, FADT_SIZE);
+    sum_up(coded_fadt, (size_t)coded_regions[1].length);
     got = reader->run(paint(&out, reader->size));
     result(got == status && (status || !memcmp(out.at, &expected, reader->size))
            && is_left_but(&out, status ? 0 : reader->size), reader->name, (int)place, value, got);
 }
-static const struct zacpi_generic_address no_address;
-static void refuse(struct zacpi_register *shown) { shown->at = no_address, shown->present = 2; }
+static void refuse(struct zacpi_register *shown) {
+    shown->at.address = 0, shown->at.space = shown->at.bit_width = shown->at.bit_offset = shown->at.access_size = 0;
+    shown->present = 2;
+}
 
 /* With a code in one byte of a register it returns what it returned before, but for that byte. */
 static void check_read_code(const struct reader *reader, const struct spot *spot, size_t byte, unsigned value) {
@@ -128,29 +138,65 @@ static void check_read_code(const struct reader *reader, const struct spot *spot
     coded_fadt[spot->x + byte] = was, expected = before;
 }
 
-/* All registers are read as they were laid out, and each code of them. */
+/* The registers that a call returns are as they were laid out, and so is each code of them. */
+static void check_reader(const struct reader *reader) {
+    size_t i, k;
+    if (reader->is_reduced) coded_fadt[114] ^= 0x10; /* Flags: HW_REDUCED_ACPI */
+    sum_up(coded_fadt, (size_t)coded_regions[1].length);
+    result(!reader->run(paint(&out, reader->size)), reader->name, 0, 0, 0);
+    memcpy(&expected, out.at, reader->size);
+    for (i = 0; i < SPOTS; i++) {
+        const struct zacpi_register *shown;
+        if (reader->spot != SPOTS && reader->spot != i) continue;
+        shown = (void *)(expected.bytes + (reader->spot == i ? reader->at : spots[i].in_record));
+        result(shown->at.address == spots[i].at.address && shown->at.space == 1 && !shown->at.bit_offset
+               && shown->at.bit_width == spots[i].at.bit_width && shown->at.access_size == spots[i].at.access_size
+               && (reader->spot == PM_TIMER || shown->present == 1), reader->name, (int)i, 1, 0);
+        for (k = 0; k < sizeof codes; k++) {
+            check_read_code(reader, spots + i, 0, codes[k]);
+            check_read_code(reader, spots + i, 3, codes[k]);
+        }
+    }
+    if (reader->is_reduced) coded_fadt[114] ^= 0x10;
+}
 static void check_read_codes(void) {
     const struct reader *reader;
-    size_t i, k;
-    for (reader = readers; reader < readers + sizeof readers / sizeof *readers; reader++) {
-        if (reader->is_reduced) coded_fadt[114] ^= 0x10; /* Flags: HW_REDUCED_ACPI */
-        sum_up(coded_fadt, FADT_SIZE);
-        result(!reader->run(paint(&out, reader->size)), reader->name, 0, 0, 0);
-        memcpy(&expected, out.at, reader->size);
-        for (i = 0; i < SPOTS; i++) {
-            const struct zacpi_register *shown;
-            if (reader->spot != SPOTS && reader->spot != i) continue;
-            shown = (void *)(expected.bytes + (reader->spot == i ? reader->at : spots[i].in_record));
-            result(shown->at.address == spots[i].at.address && shown->at.space == 1 && !shown->at.bit_offset
-                   && shown->at.bit_width == spots[i].at.bit_width && shown->at.access_size == spots[i].at.access_size
-                   && (reader->spot == PM_TIMER || shown->present == 1), reader->name, (int)i, 1, 0);
-            for (k = 0; k < sizeof codes; k++) {
-                check_read_code(reader, spots + i, 0, codes[k]);
-                check_read_code(reader, spots + i, 3, codes[k]);
-            }
-        }
-        if (reader->is_reduced) coded_fadt[114] ^= 0x10;
+    for (reader = readers; reader < readers + sizeof readers / sizeof *readers; reader++) check_reader(reader);
+    coded_regions[1].length = 124, put(coded_fadt + 4, 4, 124);
+    check_reader(&front_reader);
+    coded_regions[1].length = FADT_SIZE, put(coded_fadt + 4, 4, FADT_SIZE), sum_up(coded_fadt, FADT_SIZE);
+}
+
+/* The same of Base Address of an SPCR, at 40, as it is read and written. */
+static void check_console_codes(void) {
+    struct zacpi_signature named;
+    struct zacpi_spcr_contents given = pc_console;
+    console before, shown;
+    size_t k, byte;
+    zacpi_status got = zacpi_get_console(&coded, (console *)paint(&out, sizeof(console)), &named);
+    result(!got, "console", 0, 0, got);
+    memcpy(&before, out.at, sizeof before);
+    for (k = 0; k < 2 * sizeof codes; k++) {
+        const unsigned value = codes[k / 2];
+        const int holds = is_code(byte = k % 2 ? 3 : 0, value);
+        const uint8_t was = coded_spcr[40 + byte];
+        size_t *length = paint_size(&out_count);
+        shown = before;
+        given.console.base = pc_console.console.base;
+        *(byte ? &given.console.base.at.access_size : &given.console.base.at.space) = (uint8_t)value;
+        *(byte ? &shown.base.at.access_size : &shown.base.at.space) = (uint8_t)value;
+        if (!holds) refuse(&shown.base);
+        coded_spcr[40 + byte] = (uint8_t)value, sum_up(coded_spcr, SPCR_SIZE);
+        got = zacpi_get_console(&coded, (console *)paint(&out, sizeof(console)), &named);
+        result(!got && !memcmp(out.at, &shown, sizeof shown), "console", (int)byte, value, got);
+        got = zacpi_write_spcr(ids, &given, (uint8_t *)paint(&out, SPCR_SIZE), SPCR_SIZE, length);
+        result(got == (holds ? ZACPI_OK : (zacpi_status)ZACPI_UNKNOWN_CODE)
+               && *length == (holds ? SPCR_SIZE : UNCOUNTED) && is_left_but(&out, holds ? SPCR_SIZE : 0)
+               && (!holds || !memcmp(out.at, coded_spcr, SPCR_SIZE)),
+               "written console", (int)byte, value, got);
+        coded_spcr[40 + byte] = was;
     }
+    sum_up(coded_spcr, SPCR_SIZE);
 }
 
 /* By its ports alone, with each length beside which another rule begins: of a width in 8 bits only those below 32 bytes
@@ -175,7 +221,7 @@ static void check_lengths_of_ports(void) {
                 if (other->length != spot->length) continue;
                 shown->at = ports, shown->present = 1;
                 if (length > 31) refuse(shown);
-                if (spot == spots + PM_TIMER && length != 4) shown->at = no_address, shown->present = 0;
+                if (spot == spots + PM_TIMER && length != 4) refuse(shown), shown->present = 0;
                 if (!other->block) continue;
                 block->byte_length = length;
                 if (!length) block->address = 0, block->space = block->present = 0;
@@ -281,6 +327,7 @@ static void check_written_codes(void) {
 static void check_all_codes(void) {
     lay_coded();
     check_read_codes();
+    check_console_codes();
     check_lengths_of_ports();
     check_fronts();
     check_written_codes();

@@ -243,6 +243,8 @@ static const uint8_t bodiless_bytes[] = {HEAD('O', 'E', 'M', '9', 36, 255, 0x92)
 #include "rows_arm.h"
 #include "rows_riscv.h"
 #include "rows_codes.h"
+#include "rows_flags.h"
+#include "rows_texts.h"
 
 /* ---- Rows ----------------------------------------------------------------------------------------------- */
 
@@ -436,6 +438,9 @@ static void check_all_written(void) {
         }
     }
     check_all_codes();
+    check_flags();
+    check_rintc_lengths();
+    check_texts();
     check_arm_codes();
     check_gic_codes();
     check_places();
