@@ -115,6 +115,7 @@ INTRINSICS = {
     'usub_sat': lambda a, b: chosen(z3.UGT(a, b), a - b, number(0, a.size())),
     'uadd_sat': saturated_sum,
     'fshl': lambda a, b, count: unknown('fshl', a.size(), a, b, count),
+    'ashr': lambda a, count: a >> count,
     'cttz': lambda a: unknown('cttz', a.size(), a),
     'uadd_over': lambda a, b: (a + b, z3.ULT(a + b, a)),
     'umul_over': lambda a, b: (a * b, unknown('umul_over', 1, a, b) == 1),

@@ -115,6 +115,18 @@ static void check_sums_and_products(void) {
 
 static void check_bits(void) {
     int place;
+    IS(ashr8(0x80, 0), 0x80);
+    IS(ashr8(0x80, 3), 0xf0);
+    IS(ashr8(0x7f, 3), 0x0f);
+    IS(ashr8(0xff, 7), 0xff);
+    IS(ashr16(0x8001, 1), 0xc000);
+    IS(ashr16(0x7fff, 15), 0);
+    IS(ashr16(0xffff, 15), 0xffff);
+    IS(ashr32(0x80000000, 31), 0xffffffff);
+    IS(ashr32(0x40000000, 30), 1);
+    IS(ashr64(HIGH, 63), ALL);
+    IS(ashr64(HIGH, 1), (u64)3 << 62);
+    IS(ashr64(HIGH - 1, 62), 1);
     IS(cttz64(0), 64);
     for (place = 0; place < 64; place++) {
         IS(cttz64((u64)1 << place), place);
