@@ -113,6 +113,7 @@ static void check_coded(const struct reader *reader, zacpi_status status, size_t
     result(got == status && (status || !memcmp(out.at, &expected, reader->size))
            && is_left_but(&out, status ? 0 : reader->size), reader->name, (int)place, value, got);
 }
+/* A field at a time, since padding stays as it was. */
 static void refuse(struct zacpi_register *shown) {
     shown->at.address = 0, shown->at.space = shown->at.bit_width = shown->at.bit_offset = shown->at.access_size = 0;
     shown->present = 2;
@@ -216,10 +217,10 @@ static void check_lengths_of_ports(void) {
             const uint8_t length = lengths[k];
             for (other = spots; other < spots + RESET; other++) {
                 struct zacpi_register *shown = (void *)(expected.bytes + other->in_record);
-                const struct zacpi_generic_address ports = {other->at.address, 1, (uint8_t)(8 * length), 0, 0};
                 struct zacpi_gpe_block *block = (void *)(expected.bytes + other->block);
                 if (other->length != spot->length) continue;
-                shown->at = ports, shown->present = 1;
+                shown->at.address = other->at.address, shown->at.space = 1, shown->at.bit_width = (uint8_t)(8 * length);
+                shown->at.bit_offset = shown->at.access_size = 0, shown->present = 1;
                 if (length > 31) refuse(shown);
                 if (spot == spots + PM_TIMER && length != 4) refuse(shown), shown->present = 0;
                 if (!other->block) continue;
