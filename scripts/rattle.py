@@ -16,6 +16,8 @@ GONE = '\0'  # stands where text was dropped
 STATEMENTS = ('return', 'let', 'for', 'while', 'if', 'match')
 # Words of contracts and proofs: one that is left is of a construct that isn't known here. Macros of Rattle's alone too.
 LEFT = {'ghost', 'requires', 'ensures', 'tactic', 'cycle', 'Model', 'unsafe', 'prove', 'transmute'}
+# The attribute of what is called from C. Nothing else may be unsafe.
+EXPORTED = '#[unsafe(no_mangle)]'
 # Where each module of Rattle's std is in Rust: the rest isn't known.
 CORE = {'borrow', 'cell', 'char', 'cmp', 'convert', 'error', 'fmt', 'hash', 'iter', 'marker', 'mem', 'ops', 'option',
         'result', 'slice', 'str', 'array'}
@@ -248,7 +250,7 @@ def code_of(text):
 
 def check(code):
     """Stops at what is left of a construct that isn't known."""
-    for word in re.findall(r'[A-Za-z_]\w*', code):
+    for word in re.findall(r'[A-Za-z_]\w*', code.replace(EXPORTED, '')):
         if word in LEFT:
             raise Unknown(word)
     strange = re.search(r'[^\x00-\x7f]', code)

@@ -12,6 +12,8 @@ extern crate std;
 mod acpi;
 pub mod arm;
 pub mod base;
+#[cfg(feature = "c")]
+mod exports;
 mod fixed;
 pub mod iommu;
 #[allow(missing_docs)] // fields of records: include/zacpi.h has them
@@ -31,6 +33,13 @@ mod memory;
 mod of_tables;
 pub mod tables;
 mod upstream;
+
+// A static library for C has no other handler. No panic is reached, as long as callers keep what zacpi.h says.
+#[cfg(all(feature = "c", not(feature = "std"), panic = "abort", not(test)))]
+#[panic_handler]
+fn panic(_: &core::panic::PanicInfo<'_>) -> ! {
+    loop {}
+}
 
 pub use acpi::*;
 pub use alloc::TryClone;

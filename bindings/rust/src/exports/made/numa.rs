@@ -1,0 +1,133 @@
+// Made by scripts/erase of crates/acpi_c/src/made/numa.rt, where it is proved.
+//! Made by scripts/exports of include/zacpi.h, which has what each call does.
+
+use crate::lists::affinities::srat_entries;
+use crate::lists::answer::answer;
+use crate::lists::entry_faults::EntryFault;
+use crate::lists::numa::{distance, domain_of_address, domain_of_apic, domain_of_processor, localities};
+use crate::lists::numa_records::{GenericInitiator, ItsAffinity, Localities, MemoryAffinity, ProcessorAffinity};
+use crate::lists::records::{Signature, Source};
+use crate::lists::srat_faults::srat_faults;
+
+/// Lists the memory that the SRAT puts into domains: its Memory Affinity entries that are enabled, have a byte, and end
+/// below 2^64, up to where no entry begins.
+#[unsafe(no_mangle)]
+pub extern "C" fn zacpi_1_list_memory_affinities(
+    source: &Source<'_>,
+    out: *mut MemoryAffinity,
+    out_length: usize,
+    count: &mut usize,
+    named: &mut Signature,
+) -> u32 {
+    let out = unsafe { core::slice::from_raw_parts_mut(out, out_length) };
+    answer(srat_entries(source, out), count, named)
+}
+
+/// Lists the processors that the SRAT puts into domains, those that the MADT lacks too: its entries of Types 0, 2 and 3
+/// that are enabled (bit 0 of Flags), up to where no entry begins; of several for one processor the last counts.
+#[unsafe(no_mangle)]
+pub extern "C" fn zacpi_1_list_processor_affinities(
+    source: &Source<'_>,
+    out: *mut ProcessorAffinity,
+    out_length: usize,
+    count: &mut usize,
+    named: &mut Signature,
+) -> u32 {
+    let out = unsafe { core::slice::from_raw_parts_mut(out, out_length) };
+    answer(srat_entries(source, out), count, named)
+}
+
+/// Lists the generic initiators that the SRAT puts into domains: its entries of Type 5 that are enabled, up to where no
+/// entry begins.
+#[unsafe(no_mangle)]
+pub extern "C" fn zacpi_1_list_generic_initiators(
+    source: &Source<'_>,
+    out: *mut GenericInitiator,
+    out_length: usize,
+    count: &mut usize,
+    named: &mut Signature,
+) -> u32 {
+    let out = unsafe { core::slice::from_raw_parts_mut(out, out_length) };
+    answer(srat_entries(source, out), count, named)
+}
+
+/// Lists the domains of Interrupt Translation Services: the SRAT's entries of Type 4, which have no Flags, up to where
+/// no entry begins.
+#[unsafe(no_mangle)]
+pub extern "C" fn zacpi_1_list_its_affinities(
+    source: &Source<'_>,
+    out: *mut ItsAffinity,
+    out_length: usize,
+    count: &mut usize,
+    named: &mut Signature,
+) -> u32 {
+    let out = unsafe { core::slice::from_raw_parts_mut(out, out_length) };
+    answer(srat_entries(source, out), count, named)
+}
+
+/// Lists the enabled entries of memory that ends at 2^64 or above, which zacpi_list_memory_affinities leaves out, and
+/// last, if bytes are left, where none begins.
+#[unsafe(no_mangle)]
+pub extern "C" fn zacpi_1_list_srat_faults(
+    source: &Source<'_>,
+    out: *mut EntryFault,
+    out_length: usize,
+    count: &mut usize,
+    named: &mut Signature,
+) -> u32 {
+    let out = unsafe { core::slice::from_raw_parts_mut(out, out_length) };
+    answer(srat_faults(source, out), count, named)
+}
+
+/// Returns the domain of the memory at an address: of the first enabled entry whose memory contains it.
+#[unsafe(no_mangle)]
+pub extern "C" fn zacpi_1_domain_of_address(
+    source: &Source<'_>,
+    address: u64,
+    out: &mut u32,
+    named: &mut Signature,
+) -> u32 {
+    answer(domain_of_address(source, address), out, named)
+}
+
+/// Returns the domain of the processor with this APIC ID or X2APIC ID: of the last enabled entry for it (sections
+/// 5.2.16.1, whose domain has 8 bits below revision 2, and 5.2.16.3).
+#[unsafe(no_mangle)]
+pub extern "C" fn zacpi_1_domain_of_apic(
+    source: &Source<'_>,
+    local_apic_id: u32,
+    out: &mut u32,
+    named: &mut Signature,
+) -> u32 {
+    answer(domain_of_apic(source, local_apic_id), out, named)
+}
+
+/// Returns the domain of the processor of a GIC with this ACPI Processor UID: of the last enabled GICC Affinity entry
+/// for it (section 5.2.16.4).
+#[unsafe(no_mangle)]
+pub extern "C" fn zacpi_1_domain_of_processor(
+    source: &Source<'_>,
+    uid: u32,
+    out: &mut u32,
+    named: &mut Signature,
+) -> u32 {
+    answer(domain_of_processor(source, uid), out, named)
+}
+
+/// Returns the size of the SLIT, and whether it can be believed.
+#[unsafe(no_mangle)]
+pub extern "C" fn zacpi_1_get_localities(source: &Source<'_>, out: &mut Localities, named: &mut Signature) -> u32 {
+    answer(localities(source), out, named)
+}
+
+/// Returns how far one locality is from another: 10 from itself, 255 unreachable.
+#[unsafe(no_mangle)]
+pub extern "C" fn zacpi_1_distance(
+    source: &Source<'_>,
+    from: u64,
+    to: u64,
+    out: &mut u8,
+    named: &mut Signature,
+) -> u32 {
+    answer(distance(source, from, to), out, named)
+}
