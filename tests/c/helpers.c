@@ -34,6 +34,10 @@ static void check_division(void) {
     IS(udiv64(ALL, 24), 0xaaaaaaaaaaaaaaa); /* 2^64 - 16 is 24 times that, and 15 are left */
     IS(udiv64((u64)1 << 32, 2), (u64)1 << 31);
     IS(udiv64(0x123456789abcdef0, (u64)1 << 32), 0x12345678);
+    IS(urem64(24, 24), 0);
+    IS(urem64(1000, 7), 6);
+    IS(urem64(ALL, 10), 5); /* 18446744073709551615 */
+    IS(urem64(HIGH, 12), 8); /* 0 modulo 4, and 2 modulo 3, as each odd power of 2 */
     IS(modulo_65535(0), 0);
     IS(modulo_65535(1), 1);
     IS(modulo_65535(65534), 65534);
@@ -57,6 +61,11 @@ static void check_sums_and_products(void) {
     IS(umin64(HIGH, HIGH - 1), HIGH - 1);
     IS(umin64(0, ALL), 0);
     IS(umax8(255, 1), 255);
+    IS(ctpop64(0), 0);
+    IS(ctpop64(1), 1);
+    IS(ctpop64(HIGH), 1);
+    IS(ctpop64(0xf0f0), 8);
+    IS(ctpop64(ALL), 64);
     IS(umax16(0x100, 0xff), 0x100);
     IS(umax32(0x7fffffff, 0x80000000), 0x80000000);
     IS(umax64(HIGH, HIGH - 1), HIGH);
