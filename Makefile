@@ -7,6 +7,7 @@
 #   make install            the headers, zacpi.c, zacpi-subset, both archives, what leads pkg-config and CMake to them,
 #                           examples
 #   make acpi_dump          out/acpi_dump, acpi_view and acpi_pack, the programs, by cargo, for TARGET if one is named
+#   make regenerate         out/zacpi.c, of the Rust package, by rustc and LLVM (scripts/regenerate)
 #   make install-programs   these, or the programs in $(PROGRAMS), with their manual pages and completions
 #   make uninstall          removes what both have installed
 #
@@ -57,6 +58,9 @@ $(OUT)/acpi_dump: $(wildcard bindings/*/Cargo.toml) $(shell find bindings/rust/s
 	    $(if $(TARGET),--target $(TARGET))
 	cp $(NAMES:%=$(OUT)/cargo/$(if $(TARGET),$(TARGET)/)release/%) $(OUT)
 
+regenerate:
+	scripts/regenerate $(OUT)/zacpi.c
+
 LINKED = $(CC) -std=c99 $(CFLAGS) -Iinclude $(1) $(OUT)/libzacpi.a $(LDFLAGS) -o $(OUT)/$(2)
 check: $(OUT)/libzacpi.a
 	$(call LINKED,examples/c/first.c,first)
@@ -100,4 +104,4 @@ uninstall:
 	    $(SHARE)/zsh/site-functions/_acpi_dump $(SHARE)/fish/vendor_completions.d/acpi_dump.fish
 clean:
 	rm -rf $(OUT)
-.PHONY: all kernel acpi_dump check install install-programs uninstall clean
+.PHONY: all kernel acpi_dump regenerate check install install-programs uninstall clean
