@@ -45,7 +45,8 @@ def edits_of(texts, count, seed):
         for place, line in enumerate(lines if len(lines) < SHORT else []):
             for kind, pattern, made in KINDS:
                 found = re.match(pattern, line.strip())
-                if found:
+                is_struct = kind == 'another result' and 'struct' in lines[0]
+                if found and not is_struct:
                     by_kind.setdefault(kind, []).append(Edit(kind, name, place, line.strip(), made(found)))
     chosen = random.Random(seed)
     kinds = sorted(by_kind)

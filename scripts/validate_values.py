@@ -210,9 +210,10 @@ class C:
         return refuse(f'unary {node.op}')
 
     def choice(self, way, node):
-        """Both sides count as computed, so no less is asked of either."""
+        """Both sides count as read; what is asked of one is asked where it is chosen."""
         condition, events = truth(self.value(way, node.cond)), len(way.events)
-        yes, no = self.value(way, node.iftrue), self.value(way, node.iffalse)
+        yes = self.under(way, condition, node.iftrue)
+        no = self.under(way, z3.Not(condition), node.iffalse)
         if len(way.events) > events:
             refuse('a call in a choice')
         if isinstance(yes.term, tuple):
@@ -221,6 +222,12 @@ class C:
         if 'pointer' not in (yes.kind, no.kind) and yes.kind != 'lanes':
             yes, no = usual(yes, no)
         return Value(yes.kind, chosen(condition, yes.term, no.term))
+
+    def under(self, way, condition, node):
+        asked = len(way.owed)
+        value = self.value(way, node)
+        way.owed[asked:] = [(why, simple(z3.Implies(condition, one))) for why, one in way.owed[asked:]]
+        return value
 
     def element(self, way, node):
         """A byte."""
