@@ -1,5 +1,5 @@
-//! The builder of options that the sources use of Rattle's `clap`, over the crate `clap`. Which words are options, and what
-//! is wrong with them, is what `clap` finds. The texts are made here, since each version of `clap` has its own words.
+//! The builder of options that the sources use of Rattle's `clap`, over the crate `clap`. Which words are options, and
+//! what is wrong with them, is what `clap` finds. The texts are made here, since each version of it has other words.
 use crate::rattle::alloc::{AllocError, Global};
 use clap::error::{ContextKind, ContextValue};
 use core::fmt::{self, Write};

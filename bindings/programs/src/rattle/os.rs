@@ -10,7 +10,7 @@ pub mod unix {
         pub trait DirBuilderExt {}
     }
 
-    /// On systems whose std has no numbers of files, each file has another one, so that no two are known to be the same.
+    /// On systems whose std has no numbers of files, each file has another, so that no two are known to be the same.
     #[cfg(not(unix))]
     mod other {
         use std::sync::atomic::{AtomicU64, Ordering};
