@@ -1,2 +1,6 @@
+mod Growing
+mod Lists
+mod Parts
 mod Reading
+mod Spelled
 mod Within

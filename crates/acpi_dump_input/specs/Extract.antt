@@ -1,8 +1,13 @@
 -- What is saved: --extract tables, each as a file of one folder, --html a page as one file.
-use Rattle.std.specs.Prelude.{◌≡◌, ◌⊎◌, ◌≢◌, ℕ, Bool, true, false, ◌==◌, List, [], ◌∷◌, ◌++◌, All, Contains, codes, Result, Ok, Err}
+use Rattle.std.specs.Prelude.{◌≡◌, ◌⊎◌, ◌≢◌, ◌<◌, ℕ, Bool, true, false, ◌==◌, List, [], ◌∷◌, ◌++◌, All, Contains, codes, length, Result, Ok, Err}
 use Rattle.std.specs.List.{list_any}
 use Rattle.acpi_pack_lib.specs.Saves.{FileSaved}
 use Rattle.acpi_pack_lib.specs.declared.save.SaveError.{SaveError}
+
+-- whether something may be left out: after an error, and else if the run is marked as incomplete
+abbrev pub is_partial : {A E : Type 0} → Result A E → Bool → Bool
+is_partial (Ok x) is_incomplete = is_incomplete
+is_partial (Err e) is_incomplete = true
 
 -- ---- one file
 
@@ -19,12 +24,10 @@ SavesFile inputs path bytes is_incomplete before after false = (is_incomplete �
 
 -- ---- a page
 
--- the text of a page is saved as the file of a path, but not at `-`, which is standard output; an empty text is no file
+-- the text of a page is saved as the file of a path, but not at `-`, which is standard output
 abbrev pub SavesPage : List (List ℕ) → List ℕ → List ℕ → Bool → List FileSaved → List FileSaved → Type 0
-SavesPage inputs path [] is_incomplete before after = after ≡ before
-SavesPage inputs path (c ∷ text) is_incomplete before after = ((path ≡ codes "-") × (after ≡ before))
-    ⊎ ((path ≢ codes "-") × (is_saved : Bool)
-    × SavesFile inputs path (c ∷ text) is_incomplete before after is_saved)
+SavesPage inputs path text is_incomplete before after = ((path ≡ codes "-") × (after ≡ before))
+    ⊎ ((path ≢ codes "-") × (is_saved : Bool) × SavesFile inputs path text is_incomplete before after is_saved)
 
 -- ---- tables
 
@@ -41,17 +44,23 @@ pub record IsTable (inputs : List (List ℕ)) (folder : List ℕ) (tables : List
   pub sources : f.sources ≡ inputs
   pub bytes : Contains tables f.bytes
 
--- what was to be saved grew by such files alone
-pub record SavesTables (inputs : List (List ℕ)) (folder : List ℕ) (tables : List (List ℕ))
+-- one of these files is saved, and has these bytes
+pub record IsSaved (files : List FileSaved) (bytes : List ℕ) : Type 0 where
+  pub file : FileSaved
+  pub there : Contains files file
+  pub same : file.bytes ≡ bytes
+  pub saved : file.answer ≡ Ok tt
+
+-- what was to be saved grew by such files alone, and unless something is left out each table that is wanted and has a
+-- byte is saved
+pub record SavesWanted (inputs : List (List ℕ)) (folder : List ℕ) (tables wanted : List (List ℕ)) (is_partial : Bool)
     (before after : List FileSaved) : Type 0 where
   pub added : List FileSaved
   pub grown : after ≡ before ++ added
   pub fit : All (IsTable inputs folder tables) added
+  pub whole : is_partial ≡ false → All (λ t. 0 < length t → IsSaved added t) wanted
 
--- ---- a run
-
--- tables as files of one folder, or one page
-abbrev pub SavesOneView : List FileSaved → List FileSaved → Type 0
-SavesOneView before after = (inputs : List (List ℕ)) × (place : List ℕ)
-    × (((tables : List (List ℕ)) × SavesTables inputs place tables before after)
-    ⊎ ((text : List ℕ) × (is_incomplete : Bool) × SavesPage inputs place text is_incomplete before after))
+-- all of these tables are wanted
+abbrev pub SavesTables : List (List ℕ) → List ℕ → List (List ℕ) → Bool → List FileSaved → List FileSaved → Type 0
+SavesTables inputs folder tables is_partial before after =
+    SavesWanted inputs folder tables tables is_partial before after

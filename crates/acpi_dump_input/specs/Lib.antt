@@ -1,3 +1,5 @@
 pub mod DumpText
 pub mod Extract
+pub mod Given
 pub mod Held
+pub mod Inputs

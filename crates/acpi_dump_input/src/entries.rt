@@ -1,4 +1,7 @@
 //! The tables that an input has, with what their checks say.
+ghost use Rattle.std.specs.Prelude.{◌≡◌, ◌<◌, ℕ, All, IfOk, drop, length, map, take};
+ghost use Rattle.acpi_image_reader.specs.Words.{memory_of};
+ghost use Rattle.acpi_dump_input.specs.Inputs.{IsPart, IsRest, tables_in};
 
 use crate::candidates::check_file;
 use crate::flaws::is_malformed;
@@ -118,7 +121,9 @@ fn is_same(signature: Option<Signature>, letters: &[u8; 4]) -> bool {
 }
 
 /// The bytes up to the length in the field at offset 4, and at least a header, as far as they are there.
-fn cut_to_length(lent: &[u8]) -> &[u8] {
+fn cut_to_length(lent: &[u8]) -> &[u8]
+    ensures { (n : ℕ) × (result.now ≡ take n lent.now) }
+{
     let length = field(lent, 4, 4).max(36) as usize;
     lent.get(..length).unwrap_or(lent)
 }
@@ -219,7 +224,9 @@ fn looked_over(status: Status, bytes: &[u8]) -> Status {
 }
 
 /// The table in a file.
-fn entry_of_file(file: &TableFile) -> Entry<'_> {
+fn entry_of_file(file: &TableFile) -> Entry<'_>
+    ensures { result.bytes.now ≡ file.now.bytes.items }
+{
     let lent = file.bytes.as_slice();
     let place = match file.address {
         Some(address) => Place::Address(address),
@@ -245,7 +252,9 @@ fn entry_of_file(file: &TableFile) -> Entry<'_> {
 /// The tables in files, in order.
 ///
 /// Fails if memory runs out.
-pub fn entries_of_files(alloc: Global, files: &[TableFile]) -> Result<Vec<Entry<'_>>, AllocError> {
+pub fn entries_of_files(alloc: Global, files: &[TableFile]) -> Result<Vec<Entry<'_>>, AllocError>
+    ensures { IfOk result (λ v. map (λ e. e.bytes.now) v.items ≡ tables_in files.now) }
+{
     let mut entries = Vec::new(alloc);
     for file in files {
         entries.push(entry_of_file(file))?;
@@ -253,21 +262,34 @@ pub fn entries_of_files(alloc: Global, files: &[TableFile]) -> Result<Vec<Entry<
     Ok(entries)
 }
 
+/// Bytes without the first `count` of them.
+fn bytes_after(bytes: &[u8], count: u64) -> &[u8]
+    ensures { result.now ≡ drop count bytes.now }
+{
+    bytes.get(count as usize..).unwrap_or(&[])
+}
+
 /// The bytes of a memory from an address to the end of its record, or none if it is in no record. They are the file's
 /// own: the memory isn't asked for them as a handler is, so no notice is due.
-pub fn bytes_from<'i>(image: &MemoryImage<'i>, address: u64) -> &'i [u8] {
+pub fn bytes_from<'i>(image: &MemoryImage<'i>, address: u64) -> &'i [u8]
+    ensures { IsRest (memory_of image.now) result.now }
+{
     for record in image.records() {
-        if record.start <= address
-            && let Some(rest @ [_, ..]) = record.bytes.get((address - record.start) as usize..)
-        {
-            return rest;
+        if record.start <= address {
+            let rest = bytes_after(record.bytes, address - record.start);
+            if !rest.is_empty() {
+                return rest;
+            }
         }
     }
     &[]
 }
 
 /// The table at an address, checked under the signature that it should have, or under its own.
-pub fn entry_at<'i>(image: &MemoryImage<'i>, address: u64, sought: Option<Signature>) -> Entry<'i> {
+#[tactic(auto, using(crate::proofs::Parts::is_part))]
+pub fn entry_at<'i>(image: &MemoryImage<'i>, address: u64, sought: Option<Signature>) -> Entry<'i>
+    ensures { IsPart (memory_of image.now) result.bytes.now }
+{
     let lent = bytes_from(image, address);
     let own = own_signature(lent);
     let status = match sought {
@@ -289,7 +311,9 @@ fn entry_led<'i>(
     image: &MemoryImage<'i>,
     address: AcpiResult<u64>,
     signature: Signature,
-) -> Entry<'i> {
+) -> Entry<'i>
+    ensures { IsPart (memory_of image.now) result.bytes.now }
+{
     match address {
         Ok(address) => entry_at(image, address, Some(signature)),
         Err(refusal) => Entry {
@@ -325,15 +349,19 @@ pub fn entries_of<'i>(
     alloc: Global,
     image: &MemoryImage<'i>,
     tables: &AcpiTables<'_, MemoryImage<'_>>,
-) -> Result<Vec<Entry<'i>>, AllocError> {
+) -> Result<Vec<Entry<'i>>, AllocError>
+    ensures parts { IfOk result (λ v. All (IsPart (memory_of image.now)) (map (λ e. e.bytes.now) v.items)) }
+    ensures some { IfOk result (λ v. 0 < length v.items) }
+{
     let mut entries = vec![in alloc; entry_at(image, tables.root_address(), None)]?;
     for address in tables.addresses() {
         entries.push(entry_at(image, address, None))?;
     }
     for led in &led_by_fadt(tables) {
-        if let Some((address, signature)) = *led {
-            entries.push(entry_led(image, address, signature))?;
-        }
+        let Some((address, signature)) = *led else {
+            continue;
+        };
+        entries.push(entry_led(image, address, signature))?;
     }
     Ok(entries)
 }

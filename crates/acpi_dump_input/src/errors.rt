@@ -50,7 +50,9 @@ impl Log {
 }
 
 /// Begins a line on a file.
-pub fn begin(log: &mut Log, name: &str) {
+pub fn begin(log: &mut Log, name: &str)
+    ensures { log.new.is_incomplete ≡ log.old.is_incomplete }
+{
     log.text.text("acpi_dump: ");
     log.text.escaped(name.as_bytes());
     log.text.text(": ");
@@ -114,7 +116,9 @@ impl Named for At {
 }
 
 /// Says something of a file, and what that means.
-fn tell_meaning(log: &mut Log, name: &str, what: &impl Display, meaning: &str) {
+fn tell_meaning(log: &mut Log, name: &str, what: &impl Display, meaning: &str)
+    ensures { log.new.is_incomplete ≡ log.old.is_incomplete }
+{
     begin(log, name);
     log.text.value(what);
     log.text.text(meaning);
@@ -122,7 +126,9 @@ fn tell_meaning(log: &mut Log, name: &str, what: &impl Display, meaning: &str) {
 }
 
 /// Says something of a file.
-pub fn tell(log: &mut Log, name: &str, what: &impl Display) {
+pub fn tell(log: &mut Log, name: &str, what: &impl Display)
+    ensures { log.new.is_incomplete ≡ log.old.is_incomplete }
+{
     tell_meaning(log, name, what, "");
 }
 

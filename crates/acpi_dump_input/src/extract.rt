@@ -1,6 +1,6 @@
 //! Files that are saved: tables in one folder, and a page.
-ghost use Rattle.std.specs.Prelude.{◌≡◌, ◌∷◌, [], IfOk, IfSome, OnErr, map, string_bytes};
-ghost use Rattle.acpi_dump_input.specs.Extract.{IsNamed, SavesFile, SavesTables};
+ghost use Rattle.std.specs.Prelude.{◌≡◌, ◌∷◌, [], IfOk, IfSome, OnErr, false, true, map, string_bytes};
+ghost use Rattle.acpi_dump_input.specs.Extract.{IsNamed, SavesFile, SavesTables, is_partial};
 
 use crate::dumped::print_letters;
 use crate::entries::Entry;
@@ -38,7 +38,9 @@ fn has_folder<S: Sources, T: Storage>(
     storage: &mut T,
     log: &mut Log,
 ) -> bool
-    ensures { T.saved storage.new ≡ T.saved storage.old }
+    ensures none { T.saved storage.new ≡ T.saved storage.old }
+    ensures told { result ≡ false → log.new.is_incomplete ≡ true }
+    ensures keeps { log.old.is_incomplete ≡ true → log.new.is_incomplete ≡ true }
 {
     let why = match sources.kind_of(folder) {
         Ok(Kind::Folder) => return true,
@@ -66,7 +68,10 @@ fn names_of(alloc: Global, entries: &[Entry<'_>]) -> Out {
 }
 
 /// Prints the name on a line, with its number among those that are the same if there are several.
-fn print_numbered(names: &str, line: usize, name: &str, out: &mut Out) {
+fn print_numbered(names: &str, line: usize, out: &mut Out) {
+    let Some(name) = names.lines().nth(line) else {
+        return;
+    };
     let (mut before, mut all) = (0u64, 0u64);
     for (number, other) in names.lines().enumerate() {
         if other == name {
@@ -94,6 +99,7 @@ pub fn save_file<S: Sources, T: Storage>(
     ensures exact { IfOk result (SavesFile (map (λ i. i.now) saving.entry.inputs.now) path.now bytes.now
         log.new.is_incomplete (T.saved storage.old) (T.saved storage.new)) }
     ensures failed { OnErr result (T.saved storage.new ≡ T.saved storage.old) }
+    ensures keeps { log.old.is_incomplete ≡ true → log.new.is_incomplete ≡ true }
 {
     match sources.kind_of(path) {
         Ok(_) if !saving.is_forced => {
@@ -126,8 +132,9 @@ fn save_table<S: Sources, T: Storage>(
     out: &mut Out,
     log: &mut Log,
 ) -> Result<(), AllocError>
-    ensures { SavesTables (map (λ i. i.now) saving.entry.inputs.now) folder.now (entry.now.bytes.now ∷ [])
-        (T.saved storage.old) (T.saved storage.new) }
+    ensures exact { SavesTables (map (λ i. i.now) saving.entry.inputs.now) folder.now (entry.now.bytes.now ∷ [])
+        (is_partial result log.new.is_incomplete) (T.saved storage.old) (T.saved storage.new) }
+    ensures keeps { log.old.is_incomplete ≡ true → log.new.is_incomplete ≡ true }
 {
     let Some(path) = path_within(saving.alloc, folder, name)? else {
         fail(log, name, &"not a name of a file");
@@ -141,10 +148,11 @@ fn save_table<S: Sources, T: Storage>(
     Ok(())
 }
 
-/// Saves each table of which some byte is there as a file of a folder, which is made if it isn't there.
+/// Saves each table of which some byte is there as a file of a folder, which is made if it isn't there, or prints why
+/// it isn't saved.
 ///
 /// Fails if memory runs out.
-#[tactic(auto, using(crate::proofs::Within::no_table, crate::proofs::Within::more_tables))]
+#[tactic(auto, using(crate::proofs::Within::no_table, crate::proofs::Within::none_wanted))]
 pub fn save_tables<S: Sources, T: Storage>(
     saving: Saving<'_>,
     folder: &str,
@@ -155,7 +163,7 @@ pub fn save_tables<S: Sources, T: Storage>(
     log: &mut Log,
 ) -> Result<(), Stop>
     ensures { SavesTables (map (λ i. i.now) saving.entry.inputs.now) folder.now (map (λ e. e.bytes.now) entries.now)
-        (T.saved storage.old) (T.saved storage.new) }
+        (is_partial result log.new.is_incomplete) (T.saved storage.old) (T.saved storage.new) }
 {
     let names = names_of(saving.alloc, entries);
     let Some(names) = names.printed() else {
@@ -164,17 +172,16 @@ pub fn save_tables<S: Sources, T: Storage>(
     if !entries.is_empty() && !has_folder(folder, sources, storage, log) {
         return Ok(());
     }
-    for (line, name) in names.lines().enumerate() {
-        if let Some(entry) = entries.get(line)
-            && !entry.bytes.is_empty()
-        {
-            let mut file = Out::new(saving.alloc);
-            print_numbered(names, line, name, &mut file);
-            let Some(file) = file.printed() else {
-                return Err(Stop::OutOfMemory);
-            };
-            save_table(saving, folder, file, entry, sources, storage, out, log)?;
+    for (line, entry) in entries.iter().enumerate() {
+        if entry.bytes.is_empty() {
+            continue;
         }
+        let mut file = Out::new(saving.alloc);
+        print_numbered(names, line, &mut file);
+        let Some(file) = file.printed() else {
+            return Err(Stop::OutOfMemory);
+        };
+        save_table(saving, folder, file, entry, sources, storage, out, log)?;
     }
     Ok(())
 }

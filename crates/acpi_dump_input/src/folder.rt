@@ -1,4 +1,7 @@
 //! The tables of a folder.
+ghost use Rattle.std.specs.Prelude.{◌≡◌, ◌⊎◌, ◌++◌, ◌<◌, IfOk, OnOk, codes, length, string_bytes};
+ghost use Rattle.acpi_dump_input.specs.Given.{GivesTable, GivesTableAt, Grows};
+ghost use Rattle.acpi_dump_input.specs.Inputs.{tables_in};
 
 use crate::errors::{Stop, fail, tell};
 use crate::kind::Kind;
@@ -7,11 +10,33 @@ use crate::read::{Reader, Reading};
 use crate::sources;
 use crate::sources::Sources;
 use acpi_cli::borrowed;
+use std::alloc::{AllocError, Global};
+
+/// The name of a folder less a slash at its end.
+fn without_slash(folder: &str) -> &str
+    ensures { (folder.now ≡ result.now) ⊎ (folder.now ≡ result.now ++ codes "/") }
+{
+    match folder.strip_suffix('/') {
+        Some(name) => name,
+        None => folder,
+    }
+}
+
+/// The path of a file of this name in a folder.
+fn path_in(alloc: Global, folder: &str, name: &str) -> Result<String, AllocError>
+    ensures { IfOk result (λ p. string_bytes p ≡ folder.now ++ codes "/" ++ name.now) }
+{
+    Ok(format!(in alloc; "{folder}/{name}")?)
+}
 
 impl<S: Sources> Reader<'_, S> {
     /// Adds the tables of a file in a folder. A folder in it is skipped, and so is what is no file or has no tables,
     /// with a message. A file with `.dat` after its name is a table, if it is nothing else.
-    fn add_within(&mut self, path: &str) -> Result<(), Stop> {
+    #[tactic(auto, using(crate::proofs::Growing::grows_none, crate::proofs::Growing::grows_at))]
+    fn add_within(&mut self, path: &str) -> Result<(), Stop>
+        ensures { Grows (GivesTableAt S.gives path.now) (tables_in self.old.tables.items)
+            (tables_in self.new.tables.items) }
+    {
         match self.sources.kind_of(path) {
             Ok(sources::Kind::Folder) => return Ok(()),
             Ok(sources::Kind::Other) => return Ok(tell(self.log, path, &"not a file: skipped")),
@@ -36,13 +61,18 @@ impl<S: Sources> Reader<'_, S> {
 
     /// Adds the tables of the files of these names in a folder, in the order of their names. What isn't added leaves
     /// the others as they are.
-    fn add_names(&mut self, folder: &str, names: &[&str]) -> Result<(), Stop> {
+    #[tactic(auto, using(crate::proofs::Growing::grows_none))]
+    fn add_names(&mut self, folder: &str, names: &[&str]) -> Result<(), Stop>
+        ensures grows { Grows (GivesTable S.gives folder.now) (tables_in self.old.tables.items)
+            (tables_in self.new.tables.items) }
+        ensures some { OnOk result (length self.old.tables.items < length self.new.tables.items) }
+    {
         let before = self.tables.len();
         let mut last = Ok(());
-        let mark = if folder.ends_with('/') { "" } else { "/" };
+        let place = without_slash(folder);
         for name in &in_order(self.alloc, names)? {
             let name = *name;
-            let path = &format!(in self.alloc; "{folder}{mark}{name}")?;
+            let path = path_in(self.alloc, place, name)?;
             if let Err(stop) = self.add_within(path.as_str()) {
                 if let Stop::OutOfMemory = stop {
                     return Err(stop);
@@ -60,7 +90,12 @@ impl<S: Sources> Reader<'_, S> {
     /// Adds the tables of a folder.
     ///
     /// Fails, after printing why, if there are none.
-    pub(crate) fn add_folder(&mut self, folder: &str) -> Result<(), Stop> {
+    #[tactic(auto, using(crate::proofs::Growing::grows_none))]
+    pub(crate) fn add_folder(&mut self, folder: &str) -> Result<(), Stop>
+        ensures grows { Grows (GivesTable S.gives folder.now) (tables_in self.old.tables.items)
+            (tables_in self.new.tables.items) }
+        ensures some { OnOk result (length self.old.tables.items < length self.new.tables.items) }
+    {
         let listing = self.sources.names_in(self.alloc, folder);
         let listing = self.told(folder, listing)?;
         let unnamed = listing.unnamed;

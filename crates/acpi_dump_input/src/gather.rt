@@ -1,4 +1,7 @@
 //! Reading the inputs that the arguments name.
+ghost use Rattle.std.specs.Prelude.{◌≡◌, ◌∷◌, ◌<◌, [], IfOk, OnOk, length, map};
+ghost use Rattle.acpi_dump_input.specs.Given.{GivesTable, Grows, inputs_read};
+ghost use Rattle.acpi_dump_input.specs.Inputs.{AreOf, IsImageOf, IsInput, IsMemory, tables_in};
 
 use crate::errors::{Log, Stop, fail, tell};
 use crate::kind::Kind;
@@ -25,7 +28,9 @@ pub enum Input {
 /// Memory from an address on, as an image.
 ///
 /// Fails, after printing that, if it would end too high.
-fn memory_from(name: &str, address: u64, bytes: Vec<u8>, log: &mut Log) -> Result<Input, Stop> {
+fn memory_from(name: &str, address: u64, bytes: Vec<u8>, log: &mut Log) -> Result<Input, Stop>
+    ensures { IfOk result (IsMemory (IsImageOf bytes.items)) }
+{
     if bytes.len() as u64 > u64::MAX - address {
         let why = format_args!("memory from 0x{address:x} on would end above 2^64 - 1");
         return Err(fail(log, name, &why));
@@ -35,7 +40,10 @@ fn memory_from(name: &str, address: u64, bytes: Vec<u8>, log: &mut Log) -> Resul
 
 impl<S: Sources> Reader<'_, S> {
     /// The input that one word names, which is no folder.
-    fn file(mut self, name: &str) -> Result<Input, Stop> {
+    #[tactic(auto, using(crate::proofs::Growing::image_is_input, crate::proofs::Growing::memory_is_input, crate::proofs::Growing::file_is_input))]
+    fn file(mut self, name: &str) -> Result<Input, Stop>
+        ensures { IfOk result (λ i. self.entry.tables.items ≡ [] → IsInput S.gives (name.now ∷ []) i) }
+    {
         let reading = self.reading;
         // What is said to be an image may be empty.
         if let Some(Kind::Image) = reading.kind {
@@ -53,7 +61,12 @@ impl<S: Sources> Reader<'_, S> {
     }
 
     /// Adds the tables of a file or a folder.
-    fn add_word(&mut self, name: &str) -> Result<(), Stop> {
+    #[tactic(auto, using(crate::proofs::Growing::grows_none, crate::proofs::Growing::grows_file))]
+    fn add_word(&mut self, name: &str) -> Result<(), Stop>
+        ensures grows { Grows (GivesTable S.gives name.now) (tables_in self.old.tables.items)
+            (tables_in self.new.tables.items) }
+        ensures some { OnOk result (length self.old.tables.items < length self.new.tables.items) }
+    {
         let reading = self.reading;
         if self.is_folder(name)? {
             if reading.at.is_some() {
@@ -67,7 +80,10 @@ impl<S: Sources> Reader<'_, S> {
     }
 
     /// The tables that words name, or folders, in the order of the files' names.
-    fn words(mut self, names: &[&str]) -> Result<Input, Stop> {
+    fn words(mut self, names: &[&str]) -> Result<Input, Stop>
+        ensures { IfOk result (λ i. self.entry.tables.items ≡ [] → 0 < length names.now
+            → IsInput S.gives (map (λ n. n.now) names.now) i) }
+    {
         for name in &in_order(self.alloc, names)? {
             self.add_word(*name)?;
         }
@@ -75,7 +91,9 @@ impl<S: Sources> Reader<'_, S> {
     }
 
     /// The tables of one machine among those that were read.
-    fn all(self) -> Result<Input, Stop> {
+    fn all(self) -> Result<Input, Stop>
+        ensures { IfOk result (AreOf (tables_in self.entry.tables.items)) }
+    {
         let Reader {
             alloc,
             tables,
@@ -95,7 +113,9 @@ pub fn gather<S: Sources>(
     reading: Reading,
     sources: &mut S,
     log: &mut Log,
-) -> Result<Input, Stop> {
+) -> Result<Input, Stop>
+    ensures { IfOk result (IsInput S.gives (inputs_read (map (λ n. n.now) names.now))) }
+{
     let mut reader = Reader {
         alloc,
         reading,
@@ -103,15 +123,15 @@ pub fn gather<S: Sources>(
         log: &mut *log,
         tables: Vec::new(alloc),
     };
-    match names {
-        [] => {
-            let own = reader.words(&[OWN]);
-            if own.is_err() {
-                let what = "Linux shows the machine's tables there, to root alone";
-                tell(log, OWN, &what);
-            }
-            own
+    if names.is_empty() {
+        let own = reader.words(&[OWN]);
+        if own.is_err() {
+            let what = "Linux shows the machine's tables there, to root alone";
+            tell(log, OWN, &what);
         }
+        return own;
+    }
+    match names {
         [name] if !reader.is_folder(*name)? => reader.file(*name),
         _ => reader.words(names),
     }

@@ -1,4 +1,5 @@
 //! Which kind of input bytes are.
+ghost use Rattle.std.specs.Prelude.{◌≡◌, IfSome};
 
 use crate::candidates::has_valid_rsdp;
 use crate::text::heading_in;
@@ -54,7 +55,9 @@ fn is_whole_table(bytes: &[u8]) -> bool {
 }
 
 /// The text that bytes are, if they are one without a NUL.
-pub(crate) fn text_in(bytes: &[u8]) -> Option<&str> {
+pub(crate) fn text_in(bytes: &[u8]) -> Option<&str>
+    ensures { IfSome result (λ t. t.now ≡ bytes.now) }
+{
     if bytes.contains(&0) {
         return None;
     }

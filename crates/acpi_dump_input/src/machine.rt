@@ -1,4 +1,6 @@
 //! The tables of which a machine has one each.
+ghost use Rattle.std.specs.Prelude.{◌<◌, All, Contains, IfOk, length};
+ghost use Rattle.acpi_dump_input.specs.Inputs.{tables_in};
 
 use crate::errors::{Log, fail};
 use crate::tables::TableFile;
@@ -24,7 +26,10 @@ pub(crate) fn of_one_machine(
     alloc: Global,
     tables: Vec<TableFile>,
     log: &mut Log,
-) -> Result<Vec<TableFile>, AllocError> {
+) -> Result<Vec<TableFile>, AllocError>
+    ensures same { IfOk result (λ v. All (Contains (tables_in tables.items)) (tables_in v.items)) }
+    ensures some { IfOk result (λ v. 0 < length tables.items → 0 < length v.items) }
+{
     let mut kept: Vec<TableFile> = Vec::new(alloc);
     let mut firsts = [usize::MAX; 6];
     for table in tables {

@@ -1,4 +1,6 @@
 //! Reading what a name leads to, with a message if the system returns an error.
+ghost use Rattle.std.specs.Prelude.{◌≡◌, IfOk, Ok};
+ghost use Rattle.acpi_dump_input.specs.Given.{IsReadAt};
 
 use crate::errors::{Log, Stop, fail};
 use crate::kind::{Kind, kind_of};
@@ -45,7 +47,10 @@ impl<S: Sources> Reader<'_, S> {
     /// What the system returns for a name.
     ///
     /// Fails, after printing why, if that is an error.
-    pub(crate) fn told<T>(&mut self, name: &str, given: io::Result<T>) -> Result<T, Stop> {
+    pub(crate) fn told<T>(&mut self, name: &str, given: io::Result<T>) -> Result<T, Stop>
+        ensures given { IfOk result (λ v. given ≡ Ok v) }
+        ensures same { self.new.tables ≡ self.old.tables }
+    {
         match given {
             Ok(value) => Ok(value),
             Err(refusal) => Err(fail(self.log, name, &reason_of(&refusal))),
@@ -53,7 +58,9 @@ impl<S: Sources> Reader<'_, S> {
     }
 
     /// Whether a word names a folder.
-    pub(crate) fn is_folder(&mut self, name: &str) -> Result<bool, Stop> {
+    pub(crate) fn is_folder(&mut self, name: &str) -> Result<bool, Stop>
+        ensures { self.new.tables ≡ self.old.tables }
+    {
         if name == "-" {
             return Ok(false);
         }
@@ -62,7 +69,10 @@ impl<S: Sources> Reader<'_, S> {
     }
 
     /// The bytes of an input, which is standard input if its name is `-`.
-    pub(crate) fn bytes_of(&mut self, name: &str) -> Result<Vec<u8>, Stop> {
+    pub(crate) fn bytes_of(&mut self, name: &str) -> Result<Vec<u8>, Stop>
+        ensures given { IfOk result (λ v. S.gives name.now v.items) }
+        ensures same { self.new.tables ≡ self.old.tables }
+    {
         let (alloc, most) = (self.alloc, self.reading.most);
         let content = if name == "-" {
             self.sources.read_standard_input(alloc, most)
@@ -79,7 +89,10 @@ impl<S: Sources> Reader<'_, S> {
         &mut self,
         name: &str,
         reading: Reading,
-    ) -> Result<(Option<Kind>, Vec<u8>), Stop> {
+    ) -> Result<(Option<Kind>, Vec<u8>), Stop>
+        ensures given { IfOk result (λ r. IsReadAt S.gives name.now r.1.items) }
+        ensures same { self.new.tables ≡ self.old.tables }
+    {
         let bytes = self.bytes_of(name)?;
         if bytes.is_empty() {
             return Err(fail(self.log, name, &"it is empty"));

@@ -1,4 +1,5 @@
 //! What the program reads: folders, files and standard input, and whether its output is a terminal.
+ghost use Rattle.std.specs.Prelude.{ℕ, List, IfOk, codes};
 
 use std::alloc::{AllocError, Global};
 use std::fs::File;
@@ -25,6 +26,9 @@ pub struct Listing {
 
 /// Files and folders, as the program or a test reaches them.
 pub trait Sources {
+    /// Which bytes the file of a path may have. The path of standard input is `-`.
+    ghost gives: { List ℕ → List ℕ → Type 0 };
+
     /// What a name leads to.
     ///
     /// Fails if the system doesn't say what it leads to.
@@ -39,12 +43,14 @@ pub trait Sources {
     ///
     /// Fails if the system returns an error, if the file has more than `most` bytes (`FileTooLarge`), or if memory runs
     /// out.
-    fn read(&mut self, alloc: Global, name: &str, most: u64) -> io::Result<Vec<u8>>;
+    fn read(&mut self, alloc: Global, name: &str, most: u64) -> io::Result<Vec<u8>>
+        ensures { IfOk result (λ v. gives name.now v.items) };
 
     /// All bytes of standard input.
     ///
     /// Fails if the system returns an error, if they are more than `most` (`FileTooLarge`), or if memory runs out.
-    fn read_standard_input(&mut self, alloc: Global, most: u64) -> io::Result<Vec<u8>>;
+    fn read_standard_input(&mut self, alloc: Global, most: u64) -> io::Result<Vec<u8>>
+        ensures { IfOk result (λ v. gives (codes "-") v.items) };
 
     /// Whether standard output is a terminal that has colors, whose user hasn't set `NO_COLOR`.
     fn takes_color(&mut self) -> bool;
@@ -63,7 +69,10 @@ impl<'r> HostSources<'r> {
     }
 }
 
+/// The bytes of its files may be any.
 impl Sources for HostSources<'_> {
+    ghost gives = { λ path bytes. Unit {0} };
+
     fn kind_of(&mut self, name: &str) -> io::Result<Kind> {
         let found = fs::metadata(self.rt, name)?;
         Ok(if found.is_dir() {

@@ -1,4 +1,7 @@
 //! Tables without memory around them, as files and texts have them.
+ghost use Rattle.std.specs.Prelude.{◌≡◌, ◌<◌, OnOk, length};
+ghost use Rattle.acpi_dump_input.specs.Given.{Grows, HasTable};
+ghost use Rattle.acpi_dump_input.specs.Inputs.{tables_in as bytes_of_tables};
 
 use crate::errors::{Stop, fail};
 use crate::kind::{Kind, text_in};
@@ -19,7 +22,12 @@ pub struct TableFile {
 
 impl<S> Reader<'_, S> {
     /// Adds a table.
-    fn push(&mut self, name: &str, address: Option<u64>, bytes: Vec<u8>) -> Result<(), AllocError> {
+    #[tactic(auto, using(crate::proofs::Growing::grows_none, crate::proofs::Growing::grows_one))]
+    fn push(&mut self, name: &str, address: Option<u64>, bytes: Vec<u8>) -> Result<(), AllocError>
+        ensures grows { Grows (λ t. t ≡ bytes.items) (bytes_of_tables self.old.tables.items)
+            (bytes_of_tables self.new.tables.items) }
+        ensures some { OnOk result (length self.old.tables.items < length self.new.tables.items) }
+    {
         let name = String::from_str(self.alloc, name)?;
         let table = TableFile {
             name,
@@ -32,7 +40,12 @@ impl<S> Reader<'_, S> {
     /// Adds the tables that a text spells.
     ///
     /// Fails, after saying where it is wrong, if it spells none.
-    fn add_text(&mut self, name: &str, bytes: &[u8]) -> Result<(), Stop> {
+    #[tactic(auto, using(crate::proofs::Growing::grows_none))]
+    fn add_text(&mut self, name: &str, bytes: &[u8]) -> Result<(), Stop>
+        ensures grows { Grows (HasTable bytes.now) (bytes_of_tables self.old.tables.items)
+            (bytes_of_tables self.new.tables.items) }
+        ensures some { OnOk result (length self.old.tables.items < length self.new.tables.items) }
+    {
         let Some(text) = text_in(bytes) else {
             return Err(fail(self.log, name, &"not a text"));
         };
@@ -61,12 +74,12 @@ impl<S> Reader<'_, S> {
     /// Adds the tables that bytes of this kind are.
     ///
     /// Fails, after printing why, if they are none.
-    pub(crate) fn add(
-        &mut self,
-        name: &str,
-        kind: Option<Kind>,
-        bytes: Vec<u8>,
-    ) -> Result<(), Stop> {
+    #[tactic(auto, using(crate::proofs::Growing::grows_none, crate::proofs::Growing::grows_whole))]
+    pub(crate) fn add(&mut self, name: &str, kind: Option<Kind>, bytes: Vec<u8>) -> Result<(), Stop>
+        ensures grows { Grows (HasTable bytes.items) (bytes_of_tables self.old.tables.items)
+            (bytes_of_tables self.new.tables.items) }
+        ensures some { OnOk result (length self.old.tables.items < length self.new.tables.items) }
+    {
         match kind {
             Some(Kind::Text) => self.add_text(name, &bytes),
             Some(Kind::Table) => Ok(self.push(name, None, bytes)?),

@@ -1,1 +1,2 @@
 mod Saved
+mod Words

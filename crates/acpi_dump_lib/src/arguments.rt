@@ -1,4 +1,7 @@
 //! The arguments of the program.
+ghost use Rattle.std.specs.Prelude.{◌≡◌, IfNone, IfOk, IfSome, map, option_map, take, unwrap_or, []};
+ghost use Rattle.acpi_dump_lib.specs.Asked.{AreAlike, IsAsked, asked_of, inputs_among, is_form as begins_way, value_of};
+ghost use Rattle.clap.specs.Matches.{first_value, found_of};
 
 use crate::options::{Choice, Contents, refuse, refuse_option};
 use acpi::sdt::Signature;
@@ -122,12 +125,16 @@ const ONE_VIEW: &str =
      [--check] --html FILE | --summary | --find | --compare [--html FILE] | --check | --rules";
 
 /// The word of an option, or no letters, which are no value of any, if it isn't there.
-fn word_of<'w>(matches: &ArgMatches<'w>, option: &str) -> &'w str {
+fn word_of<'w>(matches: &ArgMatches<'w>, option: &str) -> &'w str
+    ensures { result.now ≡ unwrap_or (first_value (found_of matches.now) option.now) [] }
+{
     matches.get_str(option).unwrap_or("")
 }
 
 /// The value of an option, if it is there and has letters.
-fn name_of<'w>(matches: &ArgMatches<'w>, option: &str) -> Option<&'w str> {
+fn name_of<'w>(matches: &ArgMatches<'w>, option: &str) -> Option<&'w str>
+    ensures { option_map (λ n. n.now) result ≡ value_of (found_of matches.now) option.now }
+{
     match word_of(matches, option) {
         "" => None,
         name => Some(name),
@@ -142,20 +149,46 @@ fn checked<T: Copy>(
     log: &mut Log,
     option: &'static str,
     value: Option<T>,
-) -> Result<Option<T>, Stop> {
+) -> Result<Option<T>, Stop>
+    ensures { IfOk result (λ v. v ≡ value) }
+{
     match matches.get_str(option) {
         Some(word) if value.is_none() => Err(refuse_option(log, option, word)),
         _ => Ok(value),
     }
 }
 
+/// Whether a way to the root table begins with a word.
+fn is_form(word: &str) -> bool
+    ensures { result ≡ begins_way word.now }
+{
+    matches!(word, "rsdt" | "rsdp" | "bios")
+}
+
+/// The words after the first one if they begin as a way to the root table, after the first of them.
+#[tactic(auto, using(crate::proofs::Words::no_way, crate::proofs::Words::is_way))]
+fn root_words<'w>(words: &'w [&'w str]) -> Option<(&'w str, &'w [&'w str])>
+    ensures none { IfNone result (map (λ w. w.now) words.now ≡ inputs_among (map (λ w. w.now) words.now)) }
+    ensures some { IfSome result (λ _. map (λ w. w.now) (take 1 words.now)
+        ≡ inputs_among (map (λ w. w.now) words.now)) }
+{
+    let [_, rest @ ..] = words else {
+        return None;
+    };
+    let [form, ..] = rest else {
+        return None;
+    };
+    if is_form(*form) {
+        return Some((*form, rest));
+    }
+    None
+}
+
 impl Request<'_> {
     /// Adds a choice: the tables of a signature, or all.
-    fn choose(
-        &mut self,
-        signature: Option<Signature>,
-        contents: Contents,
-    ) -> Result<(), AllocError> {
+    fn choose(&mut self, signature: Option<Signature>, contents: Contents) -> Result<(), AllocError>
+        ensures { AreAlike self.new self.old }
+    {
         self.choices.push(Choice {
             signature,
             contents,
@@ -170,7 +203,9 @@ impl Request<'_> {
         log: &mut Log,
         option: &'static str,
         contents: Contents,
-    ) -> Result<(), Stop> {
+    ) -> Result<(), Stop>
+        ensures { AreAlike self.new self.old }
+    {
         for word in matches.get_strs(option).unwrap_or(&[]) {
             let Some(signature) = parse_signature(*word) else {
                 return Err(refuse_option(log, option, *word));
@@ -181,7 +216,9 @@ impl Request<'_> {
     }
 
     /// Adds the tables whose contents are chosen: in acpidump's text all of them, unless some are named.
-    fn add_contents(&mut self, matches: &ArgMatches<'_>, log: &mut Log) -> Result<(), Stop> {
+    fn add_contents(&mut self, matches: &ArgMatches<'_>, log: &mut Log) -> Result<(), Stop>
+        ensures { AreAlike self.new self.old }
+    {
         let is_text = matches.get_flag("text");
         let (of_table, of_hex) = if is_text {
             (Contents::Dumped, Contents::Dumped)
@@ -197,7 +234,9 @@ impl Request<'_> {
     }
 
     /// Takes a view, which has to be the only one.
-    fn take_view(&mut self, view: View, log: &mut Log) -> Result<(), Stop> {
+    fn take_view(&mut self, view: View, log: &mut Log) -> Result<(), Stop>
+        ensures { AreAlike self.new self.old }
+    {
         if !matches!(self.view, View::Lines) {
             return Err(refuse(log, "two views", ONE_VIEW));
         }
@@ -206,7 +245,9 @@ impl Request<'_> {
     }
 
     /// Adds the view that the options ask for, of which at most one kind may be there.
-    fn add_view(&mut self, matches: &ArgMatches<'_>, log: &mut Log) -> Result<(), Stop> {
+    fn add_view(&mut self, matches: &ArgMatches<'_>, log: &mut Log) -> Result<(), Stop>
+        ensures { AreAlike self.new self.old }
+    {
         let is_text = matches.get_flag("text");
         let are_files = self.folder.is_some() && matches.get_strs("hex").is_none();
         if !self.choices.is_empty() && (!are_files || is_text) {
@@ -234,18 +275,20 @@ impl Request<'_> {
     }
 
     /// Takes the words after an image as a way to the root table, in place of more inputs, if they are to be one.
-    fn take_root(&mut self, log: &mut Log) -> Result<(), Stop> {
-        let [_, words @ ..] = self.inputs else {
-            return Ok(());
-        };
-        let [form @ ("rsdt" | "rsdp" | "bios"), ..] = words else {
+    fn take_root(&mut self, log: &mut Log) -> Result<(), Stop>
+        ensures inputs { IfOk result (λ _. map (λ i. i.now) self.new.inputs.now
+            ≡ inputs_among (map (λ i. i.now) self.old.inputs.now)) }
+        ensures folder { self.new.folder ≡ self.old.folder }
+        ensures page { self.new.page ≡ self.old.page }
+    {
+        let Some((form, words)) = root_words(self.inputs) else {
             return Ok(());
         };
         let Some(root) = parse_root(words) else {
             let usage = "IMAGE rsdt REVISION ADDRESS | rsdp ADDRESS | bios";
-            return Err(refuse(log, *form, usage));
+            return Err(refuse(log, form, usage));
         };
-        self.inputs = &self.inputs[..1];
+        self.inputs = self.inputs.get(..1).unwrap_or(&[]);
         self.start = Some(root);
         if self.reading.kind.is_none() && self.reading.at.is_none() {
             self.reading.kind = Some(Kind::Image);
@@ -274,7 +317,9 @@ pub(crate) fn request_of<'m>(
     alloc: Global,
     matches: &'m ArgMatches<'_>,
     log: &mut Log,
-) -> Result<Request<'m>, Stop> {
+) -> Result<Request<'m>, Stop>
+    ensures { IfOk result (λ r. IsAsked (found_of matches.now) (asked_of r)) }
+{
     let least = match word_of(matches, "check") {
         "" => None,
         word => checked(matches, log, "check", Severity::read(word))?,

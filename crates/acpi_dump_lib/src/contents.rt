@@ -1,4 +1,5 @@
 //! The contents of chosen tables.
+ghost use Rattle.std.specs.Prelude.{◌≡◌, [], All, Contains, IfOk, map};
 
 use crate::getters::print_getters;
 use crate::options::{Choice, Contents};
@@ -41,12 +42,18 @@ pub(crate) fn chosen_of<'l>(
     alloc: Global,
     entries: &[Entry<'l>],
     choices: &[Choice],
-) -> Result<Vec<Entry<'l>>, AllocError> {
+) -> Result<Vec<Entry<'l>>, AllocError>
+    ensures same { IfOk result (λ v. All (Contains (map (λ e. e.bytes.now) entries.now))
+        (map (λ e. e.bytes.now) v.items)) }
+    ensures all { IfOk result (λ v. choices.now ≡ []
+        → map (λ e. e.bytes.now) v.items ≡ map (λ e. e.bytes.now) entries.now) }
+{
     let mut chosen = Vec::new(alloc);
     for entry in entries {
-        if choices.is_empty() || choices.iter().any(|choice| chooses(*choice, entry)) {
-            chosen.push(*entry)?;
+        if !choices.is_empty() && !choices.iter().any(|choice| chooses(*choice, entry)) {
+            continue;
         }
+        chosen.push(*entry)?;
     }
     Ok(chosen)
 }

@@ -1,5 +1,7 @@
 //! The program over any files, any storage and any writers.
-ghost use Rattle.acpi_dump_input.specs.Extract.{SavesOneView};
+ghost use Rattle.std.specs.Prelude.{◌≡◌, false, map, option_map};
+ghost use Rattle.acpi_dump_lib.specs.Asked.{asked_of};
+ghost use Rattle.acpi_dump_lib.specs.Saves.{SavesAsked, SavesFor, SavesPaged, leaves_out};
 
 use crate::arguments::{Color, Request, View, request_of};
 use crate::options::{command, refuse_option};
@@ -32,7 +34,7 @@ pub fn dump<S: Sources, T: Storage, W: Write + Drop, E: Write + Drop>(
     out: W,
     err: E,
 ) -> io::Result<u8>
-    ensures { SavesOneView (T.saved storage.old) (T.saved storage.new) }
+    ensures { SavesAsked S.gives (leaves_out result false) (T.saved storage.old) (T.saved storage.new) }
 {
     let (mut shown, mut log) = (Out::new(alloc), Log::new(alloc));
     let status = print_asked(alloc, arguments, sources, storage, &mut shown, &mut log);
@@ -44,18 +46,27 @@ pub fn dump<S: Sources, T: Storage, W: Write + Drop, E: Write + Drop>(
         tell(&mut log, "standard output", &reason_of(refusal));
     }
     let told = log.text.write_to(err);
-    let status = match status {
-        Ok(0 | 3 | 4) if log.is_incomplete => 1,
-        Ok(status) => status,
-        Err(Stop::Message) => 1,
-        Err(Stop::OutOfMemory) => return Err(io::Error::from(AllocError)),
-    };
+    let status = status_of_run(status, log.is_incomplete)?;
     shown.and(told)?;
     Ok(status)
 }
 
+/// The status of a run of which this was shown: 1 in place of one that means that all is, if something isn't.
+///
+/// Fails if memory ran out.
+fn status_of_run(shown: Result<u8, Stop>, is_incomplete: bool) -> Result<u8, AllocError>
+    ensures { leaves_out result false ≡ false → leaves_out shown is_incomplete ≡ false }
+{
+    match shown {
+        Ok(0 | 3 | 4) if is_incomplete => Ok(1),
+        Ok(status) => Ok(status),
+        Err(Stop::Message) => Ok(1),
+        Err(Stop::OutOfMemory) => Err(AllocError),
+    }
+}
+
 /// Prints what the arguments ask for.
-#[tactic(auto, using(crate::proofs::Saved::none_in_view))]
+#[tactic(auto, using(crate::proofs::Saved::asked_saved))]
 fn print_asked<S: Sources, T: Storage>(
     alloc: Global,
     arguments: &[&str],
@@ -64,7 +75,8 @@ fn print_asked<S: Sources, T: Storage>(
     out: &mut Out,
     log: &mut Log,
 ) -> Result<u8, Stop>
-    ensures { SavesOneView (T.saved storage.old) (T.saved storage.new) }
+    ensures { SavesAsked S.gives (leaves_out result log.new.is_incomplete) (T.saved storage.old)
+        (T.saved storage.new) }
 {
     match &command(alloc)?.try_get_matches_from(arguments) {
         Ok(matches) => match &request_of(alloc, matches, log) {
@@ -101,7 +113,7 @@ fn print_refusal(
 }
 
 /// Prints what is asked for of the inputs.
-#[tactic(auto, using(crate::proofs::Saved::none_in_view))]
+#[tactic(auto, using(crate::proofs::Saved::failed_for, crate::proofs::Saved::read_for, crate::proofs::Saved::paged_for))]
 fn print_inputs<S: Sources, T: Storage>(
     alloc: Global,
     request: &Request<'_>,
@@ -110,7 +122,8 @@ fn print_inputs<S: Sources, T: Storage>(
     out: &mut Out,
     log: &mut Log,
 ) -> Result<u8, Stop>
-    ensures { SavesOneView (T.saved storage.old) (T.saved storage.new) }
+    ensures { SavesFor S.gives (asked_of request.now) (leaves_out result log.new.is_incomplete) (T.saved storage.old)
+        (T.saved storage.new) }
 {
     let is_on = match request.color {
         Color::Auto => sources.takes_color(),
@@ -123,9 +136,10 @@ fn print_inputs<S: Sources, T: Storage>(
         paint: Paint { is_on },
         number: 0,
     };
-    match request.view {
-        View::Differences => return print_two(output, sources, storage, out, log),
-        View::Rules => return print_rules(output, out),
+    // No files are saved beside these views but the page of differences.
+    match (request.view, request.folder, request.page) {
+        (View::Differences, None, _) => return print_two(output, sources, storage, out, log),
+        (View::Rules, None, None) => return print_rules(output, out),
         _ => {}
     }
     let input = &gather(alloc, request.inputs, request.reading, sources, log)?;
@@ -140,7 +154,7 @@ fn print_inputs<S: Sources, T: Storage>(
 }
 
 /// Prints what differs between the two inputs that are named, or saves the page of it.
-#[tactic(auto, using(crate::proofs::Saved::none_in_view))]
+#[tactic(auto, using(crate::proofs::Saved::failed_paged))]
 fn print_two<S: Sources, T: Storage>(
     output: Output<'_>,
     sources: &mut S,
@@ -148,7 +162,9 @@ fn print_two<S: Sources, T: Storage>(
     out: &mut Out,
     log: &mut Log,
 ) -> Result<u8, Stop>
-    ensures { SavesOneView (T.saved storage.old) (T.saved storage.new) }
+    ensures { SavesPaged (map (λ i. i.now) output.entry.request.now.inputs.now)
+        (option_map (λ f. f.now) output.entry.request.now.page) (leaves_out result log.new.is_incomplete)
+        (T.saved storage.old) (T.saved storage.new) }
 {
     let [first, second] = output.request.inputs else {
         refuse_option(log, "compare", "it takes two inputs");

@@ -7,8 +7,9 @@ mod machine;
 mod page;
 mod read;
 
-ghost use Rattle.std.specs.Prelude.{◌≡◌, List, ℕ, map};
-ghost use Rattle.acpi_dump_input.specs.Extract.{SavesTables};
+ghost use Rattle.std.specs.Prelude.{◌≡◌};
+ghost use Rattle.acpi_dump_lib.specs.Asked.{asked_of};
+ghost use Rattle.acpi_dump_lib.specs.Saves.{SavesOrFails, leaves_out};
 
 use crate::arguments::{Request, View};
 use crate::contents::{chosen_of, print_tables, tell_missing};
@@ -102,7 +103,6 @@ pub(crate) fn has_no_start(output: Output<'_>, input: &Input, log: &mut Log) -> 
 /// Saves the tables of an input as files of a folder.
 ///
 /// Fails, after printing why, if there are none, or if memory runs out.
-#[tactic(auto, using(crate::proofs::Saved::no_tables))]
 pub(crate) fn save_input<S: Sources, T: Storage>(
     output: Output<'_>,
     folder: &str,
@@ -112,8 +112,8 @@ pub(crate) fn save_input<S: Sources, T: Storage>(
     out: &mut Out,
     log: &mut Log,
 ) -> Result<u8, Stop>
-    ensures { (tables : List (List ℕ)) × SavesTables (map (λ i. i.now) output.entry.request.now.inputs.now) folder.now
-        tables (T.saved storage.old) (T.saved storage.new) }
+    ensures { SavesOrFails input.now (asked_of output.entry.request.now) folder.now
+        (leaves_out result log.new.is_incomplete) (T.saved storage.old) (T.saved storage.new) }
 {
     let choices = output.request.choices.as_slice();
     let entries = &tables_in(output, input, log)?.entries;

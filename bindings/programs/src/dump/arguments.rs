@@ -145,6 +145,25 @@ fn checked<T: Copy>(
     }
 }
 
+/// Whether a way to the root table begins with a word.
+fn is_form(word: &str) -> bool {
+    matches!(word, "rsdt" | "rsdp" | "bios")
+}
+
+/// The words after the first one if they begin as a way to the root table, after the first of them.
+fn root_words<'w>(words: &'w [&'w str]) -> Option<(&'w str, &'w [&'w str])> {
+    let [_, rest @ ..] = words else {
+        return None;
+    };
+    let [form, ..] = rest else {
+        return None;
+    };
+    if is_form(*form) {
+        return Some((*form, rest));
+    }
+    None
+}
+
 impl Request<'_> {
     /// Adds a choice: the tables of a signature, or all.
     fn choose(&mut self, signature: Option<Signature>, contents: Contents) -> Result<(), AllocError> {
@@ -221,17 +240,14 @@ impl Request<'_> {
 
     /// Takes the words after an image as a way to the root table, in place of more inputs, if they are to be one.
     fn take_root(&mut self, log: &mut Log) -> Result<(), Stop> {
-        let [_, words @ ..] = self.inputs else {
-            return Ok(());
-        };
-        let [form @ ("rsdt" | "rsdp" | "bios"), ..] = words else {
+        let Some((form, words)) = root_words(self.inputs) else {
             return Ok(());
         };
         let Some(root) = parse_root(words) else {
             let usage = "IMAGE rsdt REVISION ADDRESS | rsdp ADDRESS | bios";
-            return Err(refuse(log, *form, usage));
+            return Err(refuse(log, form, usage));
         };
-        self.inputs = &self.inputs[..1];
+        self.inputs = self.inputs.get(..1).unwrap_or(&[]);
         self.start = Some(root);
         if self.reading.kind.is_none() && self.reading.at.is_none() {
             self.reading.kind = Some(Kind::Image);

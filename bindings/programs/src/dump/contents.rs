@@ -46,9 +46,10 @@ pub(crate) fn chosen_of<'l>(
 ) -> Result<Vec<Entry<'l>>, AllocError> {
     let mut chosen = Vec::new(alloc);
     for entry in entries {
-        if choices.is_empty() || choices.iter().any(|choice| chooses(*choice, entry)) {
-            chosen.push(*entry)?;
+        if !choices.is_empty() && !choices.iter().any(|choice| chooses(*choice, entry)) {
+            continue;
         }
+        chosen.push(*entry)?;
     }
     Ok(chosen)
 }

@@ -41,14 +41,21 @@ pub fn dump<S: Sources, T: Storage, W: Write, E: Write>(
         tell(&mut log, "standard output", &reason_of(refusal));
     }
     let told = log.text.write_to(err);
-    let status = match status {
-        Ok(0 | 3 | 4) if log.is_incomplete => 1,
-        Ok(status) => status,
-        Err(Stop::Message) => 1,
-        Err(Stop::OutOfMemory) => return Err(io::Error::from(AllocError)),
-    };
+    let status = status_of_run(status, log.is_incomplete)?;
     shown.and(told)?;
     Ok(status)
+}
+
+/// The status of a run of which this was shown: 1 in place of one that means that all is, if something isn't.
+///
+/// Fails if memory ran out.
+fn status_of_run(shown: Result<u8, Stop>, is_incomplete: bool) -> Result<u8, AllocError> {
+    match shown {
+        Ok(0 | 3 | 4) if is_incomplete => Ok(1),
+        Ok(status) => Ok(status),
+        Err(Stop::Message) => Ok(1),
+        Err(Stop::OutOfMemory) => Err(AllocError),
+    }
 }
 
 /// Prints what the arguments ask for.
@@ -104,9 +111,10 @@ fn print_inputs<S: Sources, T: Storage>(
         Color::Never => false,
     };
     let output = Output { alloc, request, paint: Paint { is_on }, number: 0 };
-    match request.view {
-        View::Differences => return print_two(output, sources, storage, out, log),
-        View::Rules => return print_rules(output, out),
+    // No files are saved beside these views but the page of differences.
+    match (request.view, request.folder, request.page) {
+        (View::Differences, None, _) => return print_two(output, sources, storage, out, log),
+        (View::Rules, None, None) => return print_rules(output, out),
         _ => {}
     }
     let input = &gather(alloc, request.inputs, request.reading, sources, log)?;

@@ -229,14 +229,20 @@ pub fn entries_of_files(alloc: Global, files: &[TableFile]) -> Result<Vec<Entry<
     Ok(entries)
 }
 
+/// Bytes without the first `count` of them.
+fn bytes_after(bytes: &[u8], count: u64) -> &[u8] {
+    bytes.get(count as usize..).unwrap_or(&[])
+}
+
 /// The bytes of a memory from an address to the end of its record, or none if it is in no record. They are the file's
 /// own: the memory isn't asked for them as a handler is, so no notice is due.
 pub fn bytes_from<'i>(image: &MemoryImage<'i>, address: u64) -> &'i [u8] {
     for record in image.records() {
-        if record.start <= address
-            && let Some(rest @ [_, ..]) = record.bytes.get((address - record.start) as usize..)
-        {
-            return rest;
+        if record.start <= address {
+            let rest = bytes_after(record.bytes, address - record.start);
+            if !rest.is_empty() {
+                return rest;
+            }
         }
     }
     &[]
@@ -293,9 +299,10 @@ pub fn entries_of<'i>(
         entries.push(entry_at(image, address, None))?;
     }
     for led in &led_by_fadt(tables) {
-        if let Some((address, signature)) = *led {
-            entries.push(entry_led(image, address, signature))?;
-        }
+        let Some((address, signature)) = *led else {
+            continue;
+        };
+        entries.push(entry_led(image, address, signature))?;
     }
     Ok(entries)
 }

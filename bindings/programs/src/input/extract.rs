@@ -57,7 +57,10 @@ fn names_of(alloc: Global, entries: &[Entry<'_>]) -> Out {
 }
 
 /// Prints the name on a line, with its number among those that are the same if there are several.
-fn print_numbered(names: &str, line: usize, name: &str, out: &mut Out) {
+fn print_numbered(names: &str, line: usize, out: &mut Out) {
+    let Some(name) = names.lines().nth(line) else {
+        return;
+    };
     let (mut before, mut all) = (0u64, 0u64);
     for (number, other) in names.lines().enumerate() {
         if other == name {
@@ -124,7 +127,8 @@ fn save_table<S: Sources, T: Storage>(
     Ok(())
 }
 
-/// Saves each table of which some byte is there as a file of a folder, which is made if it isn't there.
+/// Saves each table of which some byte is there as a file of a folder, which is made if it isn't there, or prints why
+/// it isn't saved.
 ///
 /// Fails if memory runs out.
 pub fn save_tables<S: Sources, T: Storage>(
@@ -143,17 +147,16 @@ pub fn save_tables<S: Sources, T: Storage>(
     if !entries.is_empty() && !has_folder(folder, sources, storage, log) {
         return Ok(());
     }
-    for (line, name) in names.lines().enumerate() {
-        if let Some(entry) = entries.get(line)
-            && !entry.bytes.is_empty()
-        {
-            let mut file = Out::new(saving.alloc);
-            print_numbered(names, line, name, &mut file);
-            let Some(file) = file.printed() else {
-                return Err(Stop::OutOfMemory);
-            };
-            save_table(saving, folder, file, entry, sources, storage, out, log)?;
+    for (line, entry) in entries.iter().enumerate() {
+        if entry.bytes.is_empty() {
+            continue;
         }
+        let mut file = Out::new(saving.alloc);
+        print_numbered(names, line, &mut file);
+        let Some(file) = file.printed() else {
+            return Err(Stop::OutOfMemory);
+        };
+        save_table(saving, folder, file, entry, sources, storage, out, log)?;
     }
     Ok(())
 }

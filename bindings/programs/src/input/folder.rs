@@ -8,7 +8,21 @@ use crate::input::order::in_order;
 use crate::input::read::{Reader, Reading};
 use crate::input::sources;
 use crate::input::sources::Sources;
-use crate::rattle::format;
+use crate::rattle::alloc::{AllocError, Global};
+use crate::rattle::{String, format};
+
+/// The name of a folder less a slash at its end.
+fn without_slash(folder: &str) -> &str {
+    match folder.strip_suffix('/') {
+        Some(name) => name,
+        None => folder,
+    }
+}
+
+/// The path of a file of this name in a folder.
+fn path_in(alloc: Global, folder: &str, name: &str) -> Result<String, AllocError> {
+    Ok(format!(in alloc; "{folder}/{name}")?)
+}
 
 impl<S: Sources> Reader<'_, S> {
     /// Adds the tables of a file in a folder. A folder in it is skipped, and so is what is no file or has no tables,
@@ -37,10 +51,10 @@ impl<S: Sources> Reader<'_, S> {
     fn add_names(&mut self, folder: &str, names: &[&str]) -> Result<(), Stop> {
         let before = self.tables.len();
         let mut last = Ok(());
-        let mark = if folder.ends_with('/') { "" } else { "/" };
+        let place = without_slash(folder);
         for name in &in_order(self.alloc, names)? {
             let name = *name;
-            let path = &format!(in self.alloc; "{folder}{mark}{name}")?;
+            let path = path_in(self.alloc, place, name)?;
             if let Err(stop) = self.add_within(path.as_str()) {
                 if let Stop::OutOfMemory = stop {
                     return Err(stop);

@@ -93,15 +93,15 @@ pub fn gather<S: Sources>(
     log: &mut Log,
 ) -> Result<Input, Stop> {
     let mut reader = Reader { alloc, reading, sources, log: &mut *log, tables: Vec::new(alloc) };
-    match names {
-        [] => {
-            let own = reader.words(&[OWN]);
-            if own.is_err() {
-                let what = "Linux shows the machine's tables there, to root alone";
-                tell(log, OWN, &what);
-            }
-            own
+    if names.is_empty() {
+        let own = reader.words(&[OWN]);
+        if own.is_err() {
+            let what = "Linux shows the machine's tables there, to root alone";
+            tell(log, OWN, &what);
         }
+        return own;
+    }
+    match names {
         [name] if !reader.is_folder(*name)? => reader.file(*name),
         _ => reader.words(names),
     }

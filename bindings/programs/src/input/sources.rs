@@ -28,6 +28,8 @@ pub struct Listing {
 
 /// Files and folders, as the program or a test reaches them.
 pub trait Sources {
+    /// Which bytes the file of a path may have. The path of standard input is `-`.
+
     /// What a name leads to.
     ///
     /// Fails if the system doesn't say what it leads to.
@@ -65,6 +67,7 @@ impl<'r> HostSources<'r> {
     }
 }
 
+/// The bytes of its files may be any.
 impl Sources for HostSources<'_> {
     fn kind_of(&mut self, name: &str) -> io::Result<Kind> {
         let found = fs::metadata(self.rt, name)?;

@@ -10,18 +10,26 @@ pub(crate) fn is_wide(bytes: &[u8]) -> bool {
 }
 
 /// The letter that two bytes are, or `?` if it isn't ASCII.
-fn letter_of(unit: &[u8]) -> u8 {
-    match unit {
-        [letter, 0] if letter.is_ascii() => *letter,
-        _ => b'?',
+fn letter_of(low: u8, high: u8) -> u8 {
+    if high == 0 && low.is_ascii() { low } else { b'?' }
+}
+
+/// The first letter of a text that isn't empty, and what comes after it.
+fn first_letter(text: &[u8]) -> (u8, &[u8]) {
+    match text {
+        [low, high, rest @ ..] => (letter_of(*low, *high), rest),
+        _ => (b'?', &[]),
     }
 }
 
 /// The text after the mark, with `?` in place of what isn't ASCII.
 pub(crate) fn narrowed(alloc: Global, bytes: &[u8]) -> Result<Vec<u8>, AllocError> {
     let mut text = Vec::new(alloc);
-    for unit in bytes.get(2..).unwrap_or(&[]).chunks(2) {
-        text.push(letter_of(unit))?;
+    let mut rest = bytes.get(2..).unwrap_or(&[]);
+    while !rest.is_empty() {
+        let (letter, after) = first_letter(rest);
+        text.push(letter)?;
+        rest = after;
     }
     Ok(text)
 }

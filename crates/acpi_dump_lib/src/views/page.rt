@@ -1,7 +1,8 @@
 //! A page of an input, or of what differs between two.
 
-ghost use Rattle.std.specs.Prelude.{◌≡◌, List, ℕ, IfOk, OnErr, map};
+ghost use Rattle.std.specs.Prelude.{◌≡◌, IfOk, OnErr, Some, map};
 ghost use Rattle.acpi_dump_input.specs.Extract.{SavesPage};
+ghost use Rattle.acpi_dump_lib.specs.Saves.{SavesPaged, leaves_out};
 
 use super::judged::status_of;
 use super::read::{Tables, tables_in};
@@ -65,7 +66,7 @@ fn print_any_page(
     Ok(status.max(strict_status(output, &tables.entries)))
 }
 
-/// Saves the text of a page as a file, if there is some. The file `-` is standard output.
+/// Saves the text of a page as a file. The file `-` is standard output.
 fn save_text<S: Sources, T: Storage>(
     output: Output<'_>,
     file: &str,
@@ -81,7 +82,7 @@ fn save_text<S: Sources, T: Storage>(
 {
     if file == "-" {
         out.text(text);
-    } else if !text.is_empty() {
+    } else {
         let bytes = text.as_bytes();
         save_file(output.saving(), file, bytes, sources, storage, log)?;
     }
@@ -102,11 +103,8 @@ pub(crate) fn save_page<S: Sources, T: Storage>(
     out: &mut Out,
     log: &mut Log,
 ) -> Result<u8, Stop>
-    // The text of a page was to be saved, once, or nothing.
-    ensures saved { IfOk result (λ _. (text : List ℕ)
-        × SavesPage (map (λ i. i.now) output.entry.request.now.inputs.now) file.now text log.new.is_incomplete
-        (T.saved storage.old) (T.saved storage.new)) }
-    ensures failed { OnErr result (T.saved storage.new ≡ T.saved storage.old) }
+    ensures { SavesPaged (map (λ i. i.now) output.entry.request.now.inputs.now) (Some file.now)
+        (leaves_out result log.new.is_incomplete) (T.saved storage.old) (T.saved storage.new) }
 {
     let mut page = Out::new(output.alloc);
     let status = print_any_page(output, input, second, &mut page, log)?;

@@ -1,4 +1,7 @@
 //! The tables of an input, and what leads to them.
+ghost use Rattle.std.specs.Prelude.{◌≡◌, ◌<◌, All, IfOk, length, map};
+ghost use Rattle.acpi_image_reader.specs.Words.{IsImage, memory_of as memory_in};
+ghost use Rattle.acpi_dump_input.specs.Inputs.{AreAllTables, AreTables, IsPart};
 
 use super::Output;
 use acpi::AcpiTables;
@@ -39,7 +42,9 @@ pub(super) fn memory_of<'i>(
     output: Output<'_>,
     image: &'i [u8],
     log: &mut Log,
-) -> Result<MemoryImage<'i>, Stop> {
+) -> Result<MemoryImage<'i>, Stop>
+    ensures { IfOk result (λ m. IsImage image.now (memory_in m)) }
+{
     match MemoryImage::from_bytes(output.alloc, image) {
         Ok(memory) => Ok(memory),
         Err(refusal) => Err(fail_with(log, output.name(), &refusal)),
@@ -101,7 +106,10 @@ pub(super) fn tables_in<'i>(
     output: Output<'_>,
     input: &'i Input,
     log: &mut Log,
-) -> Result<Tables<'i>, Stop> {
+) -> Result<Tables<'i>, Stop>
+    ensures same { IfOk result (λ t. AreTables input.now (map (λ e. e.bytes.now) t.entries.items)) }
+    ensures all { IfOk result (λ t. AreAllTables input.now (map (λ e. e.bytes.now) t.entries.items)) }
+{
     match input {
         Input::Tables(files) => Ok(tables_of_files(entries_of_files(output.alloc, files)?)),
         Input::Memory(image) => tables_of_memory(output, &memory_of(output, image, log)?, log),
@@ -119,7 +127,9 @@ fn beginning_with<'i>(entries: &[Entry<'i>], letters: &[u8]) -> &'i [u8] {
 }
 
 /// Tables that come as files: an RSDP and an RSDT beside an XSDT are among them.
-fn tables_of_files(entries: Vec<Entry<'_>>) -> Tables<'_> {
+fn tables_of_files(entries: Vec<Entry<'_>>) -> Tables<'_>
+    ensures { result.entries.items ≡ entries.entry.items }
+{
     let rsdt = if beginning_with(&entries, b"XSDT").is_empty() {
         &[]
     } else {
@@ -137,7 +147,10 @@ fn tables_of_memory<'i>(
     output: Output<'_>,
     memory: &MemoryImage<'i>,
     log: &mut Log,
-) -> Result<Tables<'i>, Stop> {
+) -> Result<Tables<'i>, Stop>
+    ensures parts { IfOk result (λ t. All (IsPart (memory_in memory.now)) (map (λ e. e.bytes.now) t.entries.items)) }
+    ensures some { IfOk result (λ t. 0 < length t.entries.items) }
+{
     let (root, tables) = &open(output, memory, log)?;
     let mut tables = Tables {
         entries: entries_of(output.alloc, memory, tables)?,

@@ -57,7 +57,7 @@ fn print_any_page(
     Ok(status.max(strict_status(output, &tables.entries)))
 }
 
-/// Saves the text of a page as a file, if there is some. The file `-` is standard output.
+/// Saves the text of a page as a file. The file `-` is standard output.
 fn save_text<S: Sources, T: Storage>(
     output: Output<'_>,
     file: &str,
@@ -69,7 +69,7 @@ fn save_text<S: Sources, T: Storage>(
 ) -> Result<(), AllocError> {
     if file == "-" {
         out.text(text);
-    } else if !text.is_empty() {
+    } else {
         let bytes = text.as_bytes();
         save_file(output.saving(), file, bytes, sources, storage, log)?;
     }
