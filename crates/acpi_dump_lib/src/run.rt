@@ -26,6 +26,7 @@ use std::io::{ErrorKind, Write};
 ///
 /// Fails if memory runs out, or with the error of the first write or flush of `out`, or else of `err`, that
 /// fails.
+#[tactic(auto, using(crate::proofs::Saved::weaker_asked))]
 pub fn dump<S: Sources, T: Storage, W: Write + Drop, E: Write + Drop>(
     alloc: Global,
     arguments: &[&str],
