@@ -1,6 +1,6 @@
 #!/usr/bin/env python3
 # SPDX-License-Identifier: MIT
-"""calls.py FOLDER: makes in FOLDER what tests/twin is built over: zacpi, the Rust package with its records laid out as
+"""calls.py FOLDER: makes in FOLDER what tests/twin is built over: rust, the Rust package with its records laid out as
 C's; src/exports.rs, the exports of crates/acpi_c without what Rattle has beyond Rust, as functions of Rust; and
 src/calls.rs: the records of include/zacpi.h with the places of their fields, and of each call what each argument is,
 the export of the C library, and the function of Rust that has the same words."""
@@ -13,7 +13,7 @@ from pathlib import Path
 sys.dont_write_bytecode = True
 SCRIPTS = Path(__file__).resolve().parent.parent.parent / 'scripts'
 sys.path.insert(0, str(SCRIPTS))
-from erase_programs import copy_package
+from erase_programs import copy_packages
 from header import SIZES, abi, calls, lists, structs
 from rattle import ROOT, erased
 
@@ -129,7 +129,7 @@ def main():
     folder = Path(sys.argv[1])
     erase = scripts_erase()
     (folder / 'src').mkdir(parents=True, exist_ok=True)
-    copy_package(erase, folder)
+    copy_packages(erase, folder)
     (folder / 'src/exports.rs').write_text(exports(erase))
     homes = {name: path.stem for path in EXPORTS.glob('*.rt')
              for name in re.findall(r'fn (zacpi_\w+)', path.read_text())}

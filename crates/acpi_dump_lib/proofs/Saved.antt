@@ -1,18 +1,18 @@
 -- What one part of a run saves is what the run saves.
-use Rattle.std.proofs.Common.{◌≡◌, ◌∙◌, ℕ, zero, suc, ◌+◌, ◌++◌, ◌<◌, ◌==◌, Bool, true, false, ◌||◌, List, [], ◌∷◌, length, Option, Some, None, Result, Ok, Err, ap, inl, inr, refl, subst, sym, arith, take}
-use Rattle.std.specs.Prelude.{◌⊎◌, All, Contains, map, slice_index_or}
+use Rattle.std.proofs.Common.{◌≡◌, ◌∙◌, ℕ, zero, suc, ◌+◌, ◌++◌, ◌<◌, Bool, true, false, ◌||◌, List, [], ◌∷◌, length, Option, Some, None, ap, inl, inr, refl, subst, sym, arith, take}
+use Rattle.std.specs.Prelude.{All, Contains, map, slice_index_or}
 use Rattle.std.proofs.lemmas.List.Elements.{All-contains, All-push, All-weaker, Contains-get_or}
 use Rattle.std.proofs.lemmas.List.{take_more}
 use Rattle.acpi_base.proofs.FromStd.{map-append}
 use Rattle.acpi_dump_input.specs.declared.entries.Entry.{Entry}
-use Rattle.acpi_dump_input.specs.Extract.{SavesFile, SavesPage, SavesTables, SavesWanted, is_partial}
+use Rattle.acpi_dump_input.specs.Extract.{SavesFile, SavesPage, SavesTables}
 use Rattle.acpi_dump_input.specs.Given.{inputs_read}
 use Rattle.acpi_dump_input.specs.Inputs.{AreAllTables, AreTables, IsInput, IsPart, tables_in}
 use Rattle.acpi_dump_input.specs.declared.gather.Input.{Input}
 use Rattle.acpi_dump_input.specs.declared.gather.Input.TheVariants as input
 use Rattle.acpi_dump_lib.specs.Asked.{Asked, IsAsked, has_none}
 use Rattle.clap.specs.declared.parser.matches.Found.{Found}
-use Rattle.acpi_dump_lib.specs.Saves.{SavesAsked, SavesFor, SavesIn, SavesInput, SavesOrFails, SavesPaged, SavesRead, leaves_out}
+use Rattle.acpi_dump_lib.specs.Saves.{SavesAsked, SavesFor, SavesIn, SavesInput, SavesOrFails, SavesPaged}
 use Rattle.acpi_pack_lib.specs.Saves.{FileSaved}
 
 -- ---- more may be left out

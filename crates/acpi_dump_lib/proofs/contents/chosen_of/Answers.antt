@@ -1,4 +1,3 @@
-use Rattle.std.proofs.Common.{rules}
 use Rattle.acpi_dump_lib.proofs.Saved.{chosen_more}
 use Rattle.acpi_dump_lib.proofs.contents.chosen_of.Goals as goal
 

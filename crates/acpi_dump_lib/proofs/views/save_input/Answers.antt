@@ -1,4 +1,4 @@
-use Rattle.std.proofs.Common.{◌≡◌, ◌∙◌, ap, map, rules}
+use Rattle.std.proofs.Common.{◌∙◌, ap, map, rules}
 use Rattle.acpi_dump_input.specs.declared.entries.Entry.{Entry}
 use Rattle.acpi_dump_lib.specs.Asked.{asked_of}
 use Rattle.acpi_dump_lib.proofs.Saved.{chosen_saved, none_of, or_false, vacuous}
