@@ -87,10 +87,31 @@ int printf(const char *format, ...) {
     return 0;
 }
 
-int main(void);
+/* Pages of a pool, each request after the ones before. */
+void *mmap(void *at, size_t length, int protection, int flags, int file, long offset) {
+    static union {
+        unsigned char bytes[1 << 20];
+        unsigned long long aligned;
+    } pool;
+    static size_t used;
+    (void)at, (void)protection, (void)flags, (void)file, (void)offset;
+    if (length > sizeof pool.bytes - used) return (void *)-1;
+    used += length;
+    return pool.bytes + used - length;
+}
+int mprotect(void *at, size_t length, int protection) {
+    (void)at, (void)length, (void)protection;
+    return 0;
+}
+void exit(int status) {
+    linux_call(EXIT, status, 0, 0);
+    for (;;) {}
+}
+
+int main(int count, char **words);
 void begin(void);
 void begin(void) {
-    linux_call(EXIT, main(), 0, 0);
+    linux_call(EXIT, main(0, (char **)0), 0, 0);
     for (;;) {}
 }
 #if defined(__loongarch__)

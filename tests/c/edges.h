@@ -12,9 +12,9 @@
 static enum { NO_EDGE, AT_END, AT_BEGIN } edge;
 
 static int edge_of(int argc, char **argv) {
-    if (argc > 2 || (argc == 2 && strcmp(argv[1], "end") && strcmp(argv[1], "begin"))) return 0;
-    if (argc == 2) edge = *argv[1] == 'e' ? AT_END : AT_BEGIN;
-    return 1;
+    const char letter = argc == 2 ? *argv[1] : 0;
+    edge = letter == 'e' ? AT_END : letter == 'b' ? AT_BEGIN : NO_EDGE;
+    return argc < 2 || edge != NO_EDGE;
 }
 
 /* Whole pages between two that can't be touched. */
