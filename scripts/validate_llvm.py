@@ -53,7 +53,12 @@ def in_c(term):
         return tuple(in_c(part) for part in term)
     if z3.is_bool(term):
         return of_truth(term, 8)
-    return resized(term, next((width for width in (8, 16, 32, 64) if term.size() <= width), term.size()))
+    return resized(term, width_in_c(term))
+
+
+def width_in_c(term):
+    """The bits of the variable of C that is wide enough."""
+    return next((width for width in (8, 16, 32, 64) if term.size() <= width), term.size())
 
 
 class Function:
@@ -188,8 +193,8 @@ class Llvm:
         if operation in ('udiv', 'urem'):
             return way.divide(operation, a, b)
         if operation in ('shl', 'lshr', 'ashr') and not z3.is_bv_value(b):
-            b = b & number(a.size() - 1, a.size())  # more is anyone's choice
-        if operation == 'or' and rest.startswith('disjoint') and z3.is_bv_value(b):
+            b = b & number(width_in_c(a) - 1, a.size())  # more is anyone's choice
+        if operation == 'or' and re.match(r'disjoint i64 .*, \d+$', rest):
             operation = 'add'  # the same, if no bit is in both, else anyone's choice
         return BINARY[operation](a, b)
 
@@ -215,7 +220,11 @@ class Llvm:
 
     def select(self, way, _, rest):
         (_, condition), (kind, yes), (_, no) = (typed(one) for one in split(rest))
-        return chosen(self.value(way, 'i1', condition), self.value(way, kind, yes), self.value(way, kind, no))
+        condition = self.value(way, 'i1', condition)
+        yes, no = self.value(way, kind, yes), self.value(way, kind, no)
+        if isinstance(yes, tuple):
+            return tuple(chosen(condition, *both) for both in zip(yes, no))
+        return chosen(condition, yes, no)
 
     def place(self, way, _, rest):
         element, pointer, index = split(re.sub(rf'^{KNOWN}', '', rest))

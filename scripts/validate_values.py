@@ -355,7 +355,8 @@ class C:
         return None
 
     def function(self, way, name, given):
-        name = re.sub('_apart$', '', name) if name in self.known.apart else name
+        if name.endswith('_apart') and name[:-len('_apart')] in self.known.apart:
+            name = name[:-len('_apart')]
         if name not in self.known.results:
             refuse(f'a call of {name}')
         result, kinds = self.known.heads[name]
