@@ -259,6 +259,8 @@ class Run:
                 before.pop(0)
             elif after and re.match(r'%fill\.\d+ = getelementptr i8, ptr ', after[0]):
                 after.pop(0)
+            elif before and Line(before[0]).writes and (not after or after[0] in before):
+                self.before_alone(Line(before[0]), state, before.pop(0))
             elif before and Line(before[0]).copy and after and Line(after[0]).copy:
                 self.copies(Line(before.pop(0)), Line(after[0]), state, after.pop(0))
             elif after and Line(after[0]).zeros and '@llvm.memset' in after[0]:
