@@ -17,8 +17,8 @@ class Same:
     def __init__(self, function, hints, text, numbers, names, known):
         self.llvm = Llvm(function, names, hints['arrays'])
         self.c = C(text, numbers, hints, self.llvm, known)
-        self.function, self.solver, self.asked = function, z3.Solver(), 0
-        self.solver.set('rlimit', EFFORT)
+        self.function, self.solver = function, z3.Solver()
+        self.solver.set('rlimit', EFFORT // 10)
         self.edges, self.taken, self.begin = [], {}, None
 
     def prove(self):
@@ -36,11 +36,15 @@ class Same:
 
     def may_be(self, *terms):
         """Whether all may hold, with what has to on the way. What z3 can't tell may be."""
-        self.asked += 1
         self.solver.push()
         self.solver.add(*terms)
-        answer = self.solver.check()
-        example = self.solver.model() if answer == z3.sat else None
+        answer, solver = self.solver.check(), self.solver
+        if answer == z3.unknown:  # of a solver that isn't asked step by step, which is often quicker
+            solver = z3.SolverFor('QF_UFBV')
+            solver.set('rlimit', EFFORT)
+            solver.add(*self.solver.assertions())
+            answer = solver.check()
+        example = solver.model() if answer == z3.sat else None
         self.solver.pop()
         return answer != z3.unsat and Answer(example)
 
