@@ -11,21 +11,21 @@
 #define EDGE_PAGE 0x10000u /* as large as pages are where these run */
 static enum { NO_EDGE, AT_END, AT_BEGIN } edge;
 
-static int edge_of(int argc, char **argv) {
+static inline int edge_of(int argc, char **argv) {
     const char letter = argc == 2 ? *argv[1] : 0;
     edge = letter == 'e' ? AT_END : letter == 'b' ? AT_BEGIN : NO_EDGE;
     return argc < 2 || edge != NO_EDGE;
 }
 
 /* Whole pages between two that can't be touched. */
-static uint8_t *pages(size_t length) {
+static inline uint8_t *pages(size_t length) {
     const size_t whole = (length + EDGE_PAGE - 1) / EDGE_PAGE * EDGE_PAGE;
     uint8_t *base = (uint8_t *)mmap(NULL, whole + 2 * EDGE_PAGE, PROT_NONE, MAP_PRIVATE | MAP_ANONYMOUS, -1, 0);
     if (base == (uint8_t *)MAP_FAILED || (whole && mprotect(base + EDGE_PAGE, whole, PROT_READ | PROT_WRITE))) exit(2);
     return base + EDGE_PAGE;
 }
 /* A copy of bytes at the edge, which is never given back. */
-static void *at_edge(const void *bytes, size_t length) {
+static inline void *at_edge(const void *bytes, size_t length) {
     uint8_t *at = pages(length);
     if (edge == AT_END) at += (EDGE_PAGE - length % EDGE_PAGE) % EDGE_PAGE;
     if (length) memcpy(at, bytes, length);
@@ -33,7 +33,7 @@ static void *at_edge(const void *bytes, size_t length) {
 }
 
 /* Regions that are at the edge, and so is their list; without an edge they are where they were. */
-static const struct zacpi_region *all_at_edge(const struct zacpi_region *regions, size_t count) {
+static inline const struct zacpi_region *all_at_edge(const struct zacpi_region *regions, size_t count) {
     struct zacpi_region *copies;
     size_t i;
     if (edge == NO_EDGE) return regions;

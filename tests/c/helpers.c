@@ -36,7 +36,7 @@ static void check_division(void) {
     IS(udiv64(0x123456789abcdef0, (u64)1 << 32), 0x12345678);
     IS(urem64(24, 24), 0);
     IS(urem64(1000, 7), 6);
-    IS(urem64(ALL, 10), 5); /* 18446744073709551615 */
+    IS(urem64(ALL, 10), 5);  /* 18446744073709551615 */
     IS(urem64(HIGH, 12), 8); /* 0 modulo 4, and 2 modulo 3, as each odd power of 2 */
     IS(modulo_65535(0), 0);
     IS(modulo_65535(1), 1);
