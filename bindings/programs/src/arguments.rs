@@ -145,7 +145,7 @@ impl<'a> Command<'a> {
 pub struct ArgMatches<'w>(Vec<(String, Vec<&'w str>)>);
 
 impl<'w> ArgMatches<'w> {
-    /// The sources keep values as long as the process's arguments, which the crate has copies of: these are never freed.
+    /// The sources keep values as long as the process's arguments. The crate has copies of these, which aren't freed.
     fn of(command: &clap::Command, found: &clap::ArgMatches) -> ArgMatches<'w> {
         let mut all = Vec::new();
         for arg in command.get_arguments() {
