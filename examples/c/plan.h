@@ -11,7 +11,7 @@ extern "C" {
 typedef volatile void *plan_map(uint64_t address);
 
 /* Runs the steps in order, and returns how many were run. If the last one waits for bits that are there already, as
- * SCI_EN is where firmware has enabled ACPI, nothing is written, and all count as run. They are all of them, unless a
+ * SCI_EN is where firmware has enabled ACPI, nothing is written, and all count as run. All are run, unless a
  * register is in a space other than memory and x86's ports, isn't aligned, or isn't mapped, or a wait doesn't end within
  * a million reads: nothing is run after such a step. A plan that powers off or resets the machine may return too, since
  * a machine takes its time: halt then. Call it with interrupts disabled, on one processor. */
