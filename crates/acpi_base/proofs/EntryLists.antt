@@ -74,14 +74,29 @@ none_first {A} items = of_none (processors_of items) where
 
 -- ---- the type of the entry that bytes begin with
 
+-- it is the first entry's
+first_type : (bytes e : List ℕ) (es : List (List ℕ)) (rest : List ℕ) → bytes ≡ concat (e ∷ es) ++ rest
+    → IsEntry madt_layout e → (get_or bytes 0 0 ≡ get_or e 0 0) × (2 ≤ length bytes)
+first_type bytes e es rest whole is =
+    let split : bytes ≡ e ++ (concat es ++ rest) = whole ∙ append_assoc e (concat es) rest in (
+      ap (λ b. get_or b 0 0) split ∙ get_or_append_left e (concat es ++ rest) 0 0 (omega (arith, is.entry_type)),
+      omega (arith, ap length split, length-append e (concat es ++ rest), is.header),
+    )
+
 of_first : (bytes : List ℕ) (es : List (List ℕ)) (rest : List ℕ) → bytes ≡ concat es ++ rest
     → AllByRecursion (IsEntry madt_layout) es → get_or bytes 0 0 ≤ 16 → BeginsDefined es
 of_first bytes [] rest whole are low = tt
 of_first bytes (e ∷ es) rest whole are low =
-    let split : bytes ≡ e ++ (concat es ++ rest) = whole ∙ append_assoc e (concat es) rest in
-    let same : get_or bytes 0 0 ≡ get_or e 0 0 = ap (λ b. get_or b 0 0) split
-    ∙ get_or_append_left e (concat es ++ rest) 0 0 (omega (arith, are.0.entry_type)) in
-    omega (arith, same, low)
+    omega (arith, (first_type bytes e es rest whole are.0).0, low)
+
+of_none : (bytes : List ℕ) (es : List (List ℕ)) (rest : List ℕ) → bytes ≡ concat es ++ rest
+    → AllByRecursion (IsEntry madt_layout) es → BeginsDefined es
+    → (2 ≤ length bytes → get_or bytes 0 0 ≤ 16 → ⊥)
+    → let cut_here : List (List ℕ) × List ℕ = (es, rest) in cut_here ≡ ([], bytes)
+of_none bytes [] rest whole are first other = rw whole refl
+of_none bytes (e ∷ es) rest whole are first other =
+    let f = first_type bytes e es rest whole are.0 in
+    absurd (other f.1 (omega (arith, f.0, first)))
 
 pub defined_first : (bytes e more : List ℕ) → cut madt_grammar bytes ≡ with_entry e (cut (after_one madt_grammar) more)
     → BeginsDefined (cut madt_grammar bytes).0 → get_or e 0 0 ≤ 16
@@ -91,6 +106,13 @@ pub begins_defined : (bytes : List ℕ) → get_or bytes 0 0 ≤ 16 → BeginsDe
 begins_defined bytes low =
     let c = cut_is_cut 17 madt_grammar bytes in
     of_first bytes (cut madt_grammar bytes).0 (cut madt_grammar bytes).1 c.whole c.entries low
+
+-- where no defined type begins, nothing is cut, if the first entry could only be of one
+pub begins_none : (bytes : List ℕ) → BeginsDefined (cut madt_grammar bytes).0
+    → (2 ≤ length bytes → get_or bytes 0 0 ≤ 16 → ⊥) → cut madt_grammar bytes ≡ ([], bytes)
+begins_none bytes first other =
+    let c = cut_is_cut 17 madt_grammar bytes in
+    of_none bytes (cut madt_grammar bytes).0 (cut madt_grammar bytes).1 c.whole c.entries first other
 
 -- ---- how many entries there are at most
 

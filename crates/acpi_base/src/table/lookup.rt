@@ -194,7 +194,7 @@ fn claim_accepted<'h, H: Lender, T: AcpiTable>(
 ///
 /// Fails as `map_table` does, but for those errors.
 #[inline(always)]
-#[tactic(auto, using(crate::proofs::AllowedRanges::asked_header, crate::proofs::AllowedRanges::asked_whole, crate::proofs::Accepted::none_given_up))]
+#[tactic(auto, using(crate::proofs::AllowedRanges::asked_header, crate::proofs::AllowedRanges::asked_whole))]
 pub fn accepted_at<'h, H: Lender, T: AcpiTable>(
     handler: &'h H,
     address: u64,
@@ -213,7 +213,9 @@ pub fn accepted_at<'h, H: Lender, T: AcpiTable>(
     if has_bit(accept as u64, 0) || has_bit(accept as u64, 1) {
         claim_accepted::<H, T>(head, accept)
     } else {
-        claim_valid::<H, T>(head)
+        // A `return`, so that the second lemma is tried for this value alone.
+        #[tactic(auto, using(crate::proofs::AllowedRanges::asked_whole, crate::proofs::Accepted::none_given_up))]
+        return claim_valid::<H, T>(head);
     }
 }
 

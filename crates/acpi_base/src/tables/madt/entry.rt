@@ -148,7 +148,8 @@ impl MadtEntry {
             0x0f => MadtEntry::GicInterruptTranslationService(
                 GicInterruptTranslationServiceEntry::read(entry),
             ),
-            _ => MadtEntry::MultiprocessorWakeup(MultiprocessorWakeupEntry::read(entry)),
+            0x10 => MadtEntry::MultiprocessorWakeup(MultiprocessorWakeupEntry::read(entry)),
+            _ => unreachable!(),
         }
     }
 }

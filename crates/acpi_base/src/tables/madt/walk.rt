@@ -48,12 +48,16 @@ impl<'a> MadtEntryIter<'a> {
         ensures defined { BeginsDefined (cut madt_grammar self.new.rest.now).0 }
         ensures none { IfNone result (cut madt_grammar self.new.rest.now ≡ ([], self.new.rest.now)) }
     {
-        // Most entries come this way; joined with the other one before the split, it would take longer.
+        // Most entries come the first way. Each way has a split of its own, next to its test of the type: joined before
+        // the split they would take longer, and `read` would have to test for other types.
         if begins_defined(self.rest) {
             return split_front(&MADT_GRAMMAR, self.rest);
         }
         self.rest = past_others(self.rest);
-        split_front(&MADT_GRAMMAR, self.rest)
+        if begins_defined(self.rest) {
+            return split_front(&MADT_GRAMMAR, self.rest);
+        }
+        None
     }
 
     /// Whether `next` has answered `None` before the table's end, where no entry begins (section 5.2.12).
@@ -93,10 +97,12 @@ impl Iterator for MadtEntryIter<'_> {
 
 /// Whether bytes begin with the type and the length of an entry, and the type is a defined one.
 #[inline(always)]
-#[tactic(auto, using(crate::proofs::EntryLists::begins_defined))]
 fn begins_defined(bytes: &[u8]) -> bool
     ensures exact { (result ≡ true) ↔ ((2 ≤ length bytes.now) × (slice_index bytes.now 0 ≤ 16)) }
     ensures defined { (result ≡ true) → BeginsDefined (cut madt_grammar bytes.now).0 }
+    // Bytes whose first entry is of a defined type, if there is one, begin with none.
+    ensures none { (result ≡ false) → BeginsDefined (cut madt_grammar bytes.now).0
+        → cut madt_grammar bytes.now ≡ ([], bytes.now) }
 {
     bytes.len() >= 2 && bytes[0] as usize <= MadtEntry::LAST_TYPE
 }
