@@ -18,12 +18,23 @@ impl HostRuntime {
         std::io::stdin()
     }
 
-    pub fn stdout(&self) -> std::io::Stdout {
-        std::io::stdout()
+    pub fn stdout(&self) -> Output {
+        Output
     }
 
     pub fn stderr(&self) -> std::io::Stderr {
         std::io::stderr()
+    }
+}
+
+/// The standard output, for what depends on where it goes.
+pub struct Output;
+
+impl Output {
+    /// Whether it is a terminal that shows colors. A console of Windows may show the codes themselves, unless it is set
+    /// up by calls that std hasn't.
+    pub fn is_terminal(&self) -> bool {
+        !cfg!(windows) && std::io::IsTerminal::is_terminal(&std::io::stdout())
     }
 }
 
