@@ -9,11 +9,15 @@ from validate_terms import Refused
 
 
 def content_of(kind, text):
-    """The bytes of a constant of LLVM; None for one that anyone may choose."""
+    """The bytes of a constant of LLVM; None for one that anyone may choose. Between the parts of a packed struct is no
+    gap."""
+    if kind[0] == '<':
+        parts = [re.match(r'(\[\d+ x i\d+\]|i\d+) (.*)$', part) or refuse(part) for part in split(text[2:-2])]
+        return [byte for part in parts for byte in content_of(*part.groups())]
     array = re.match(r'\[(\d+) x (i\d+)\]$', kind)
     if text.startswith('c"'):
         return [int(one[1:], 16) if len(one) == 3 else ord(one) for one in re.findall(r'\\[0-9A-F]{2}|.', text[2:-1])]
-    if array and text != 'zeroinitializer':
+    if array and text not in ('zeroinitializer', 'poison', 'undef'):
         items = [typed(one) for one in split(text[1:-1])]
         if len(items) != int(array[1]):
             refuse(f'constant {kind}')
@@ -30,7 +34,7 @@ def static_data(module):
     found = {}
     for line in re.findall(r'^@.*', module, re.M):
         one = re.match(rf'({GLOBAL}) = (?:private |internal |unnamed_addr |local_unnamed_addr )*constant '
-                       rf'(\[\d+ x i\d+\]|i\d+) (.*), align (\d+)$', line) or refuse(line)
+                       rf'(\[\d+ x i\d+\]|i\d+|<\{{ .*? \}}>) (.*), align (\d+)$', line) or refuse(line)
         found[bare(one[1])] = content_of(one[2], one[3]), int(one[4])
     return found
 

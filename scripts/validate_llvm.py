@@ -8,12 +8,12 @@ import re
 
 import z3
 
-from ir2c_text import GLOBAL, KNOWN, LABEL, REGISTER, TYPE, bare, split, typed
+from ir2c_text import ELEMENT, GLOBAL, KNOWN, LABEL, REGISTER, TYPE, bare, split, typed
 from validate_terms import (INTRINSICS, POINTER, Refused, Way, chosen, compared, intrinsic, lanes_added, moved, number,
                             of_truth, resized, simple, sum_of_lanes, sum_of_words, widened_signed)
 
 NAMES = {'umin': 'umin', 'umax': 'umax', 'usub.sat': 'usub_sat', 'uadd.sat': 'uadd_sat', 'fshl': 'fshl', 'cttz': 'cttz',
-         'uadd.with.overflow': 'uadd_over', 'umul.with.overflow': 'umul_over'}
+         'ctpop': 'ctpop', 'uadd.with.overflow': 'uadd_over', 'umul.with.overflow': 'umul_over'}
 SIGNS = {'eq': '==', 'ne': '!=', 'lt': '<', 'le': '<=', 'gt': '>', 'ge': '>='}
 HAS_VECTORS = z3.Bool('HAS_VECTORS')
 
@@ -28,8 +28,29 @@ def bits_of(kind):
     return int(kind[1:]) if re.match(r'i\d+$', kind) else refuse(kind)
 
 
+types = {}  # the structs that the module has names for
+
+
 def bytes_of(kind):
-    return 8 if kind == 'ptr' else (bits_of(kind) + 7) // 8
+    return layout_of(kind)[0]
+
+
+def layout_of(kind):
+    """The bytes and the alignment of a type in memory."""
+    array = re.match(r'\[(\d+) x (.*)\]$', kind)
+    if array:
+        length, alignment = layout_of(array[2])
+        return int(array[1]) * length, alignment
+    if kind[0] not in '{%':
+        length = 8 if kind == 'ptr' else (bits_of(kind) + 7) // 8
+        return length, min(length, 8)
+    end, most = 0, 1
+    for part in split((kind if kind[0] == '{' else types.get(kind) or refuse(kind))[1:-1]):
+        length, alignment = layout_of(part)
+        if alignment & alignment - 1:
+            refuse(f'{part} in {kind}')
+        end, most = end + -end % alignment + length, max(most, alignment)
+    return end + -end % most, most
 
 
 def refuse(what):
@@ -74,6 +95,7 @@ class Function:
             if label:
                 block = self.blocks.setdefault(label[1] or label[2], [])
             elif line.strip():
+                line = line.partition(' ;@')[0]  # without notes of the source
                 block = self.blocks.setdefault('begin', []) if block is None else block
                 if not re.search(r'@llvm\.(assume|experimental\.noalias)', line):  # which do nothing
                     block.append(re.sub(r', ![\w.]+ !\d+| #\d+$', '', line.strip()))
@@ -131,7 +153,7 @@ class Llvm:
     def symbol(self, name):
         """A value as it is at a cut: unknown, but for a pointer that is another one and a constant."""
         if name not in self.symbols:
-            step = re.match(rf'getelementptr {KNOWN}(i\d+), ptr ({REGISTER}), i64 (-?\d+)$',
+            step = re.match(rf'getelementptr {KNOWN}({ELEMENT}), ptr ({REGISTER}), i64 (-?\d+)$',
                             self.function.made_of.get(name, ''))
             if step:
                 self.symbols[name] = moved(self.symbol(bare(step[2])), int(step[3]) * bytes_of(step[1]))
@@ -166,6 +188,9 @@ class Llvm:
         found = re.match(rf'(?:ptrtoint|ptrtoaddr) \(ptr ({GLOBAL}) to i64\)$', text)
         if found:
             return resized(address_of_data(bare(found[1])), 64)
+        found = re.match(r'inttoptr \(i64 (\d+) to ptr\)$', text)
+        if found:
+            return number(int(found[1]), POINTER[0])
         return refuse(f'constant {kind} {text}')
 
     # Instructions
@@ -368,6 +393,7 @@ def nothing(kind):
 def read_functions(text):
     """The functions of a module, by name."""
     text = re.sub(r'\[\n((?:    .*\n)*)  \]', lambda found: '[' + ' '.join(found[1].split()) + ']', text)
+    types.update(re.findall(rf'^({REGISTER}) = type (\{{.*\}})$', text, re.M))
     functions, lines = {}, iter(text.split('\n'))
     for line in lines:
         if line.startswith('define'):

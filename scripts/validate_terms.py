@@ -117,6 +117,7 @@ INTRINSICS = {
     'fshl': lambda a, b, count: unknown('fshl', a.size(), a, b, count),
     'ashr': lambda a, count: a >> count,
     'cttz': lambda a: unknown('cttz', a.size(), a),
+    'ctpop': lambda a: unknown('ctpop', a.size(), a),
     'uadd_over': lambda a, b: (a + b, z3.ULT(a + b, a)),
     'umul_over': lambda a, b: (a * b, unknown('umul_over', 1, a, b) == 1),
 }

@@ -371,6 +371,10 @@ class C:
         a, b = (to('u64', self.value(way, one)).term for one in given)
         return Value('u64', way.divide('udiv', a, b))
 
+    def rest_helper(self, way, given):
+        a, b = (to('u64', self.value(way, one)).term for one in given)
+        return Value('u64', way.divide('urem', a, b))
+
     def modulo_65535(self, way, given):
         return Value('u64', way.divide('urem', to('u64', self.value(way, given[0])).term, number(65535, 64)))
 
@@ -388,7 +392,7 @@ EXPRESSIONS = {
     'ID': lambda self, way, node: self.read(way, node.name),
 }
 HELPERS = {
-    'udiv64': C.divide_helper, 'modulo_65535': C.modulo_65535, 'sum_words': C.sum_words,
+    'udiv64': C.divide_helper, 'urem64': C.rest_helper, 'modulo_65535': C.modulo_65535, 'sum_words': C.sum_words,
     'lanes_load': lambda self, way, given: Value('lanes', way.load(self.address(way, given[0]), 16)),
     'lanes_add': lambda self, way, given: Value('lanes', lanes_added(*self.lanes(way, given))),
     'lanes_and': lambda self, way, given: Value('lanes', simple(operator.and_(*self.lanes(way, given)))),
