@@ -1,6 +1,6 @@
+#define _DEFAULT_SOURCE
 #include "answers.h"
-#include <stdio.h>
-#include <string.h>
+#include "edges.h"
 
 enum { MOST = 1024 }; /* items of a list that are printed */
 
@@ -20,32 +20,39 @@ static void print_error(const char *name, zacpi_status status, const struct zacp
     putchar('\n');
 }
 
+/* Outputs: at the edge (edges.h), painted before each call. */
+static struct again places[3];
+static void *painted(size_t place, size_t length) {
+    return memset(again_at_edge(&places[place], length), 0xa5, length);
+}
+void answer_at(int where) { edge = where; }
+
 /* A list: how many items there are, and a line for each, `it`, of those that there was room for. Between the list's
  * name and its room may stand what is asked for. */
 #define LIST(NAME, TYPE, CALL, ASKED, ...) \
     do { \
-        static struct TYPE items[MOST]; \
-        struct zacpi_signature named = {{0}}; \
-        size_t count = 0; \
+        struct TYPE *const items = (struct TYPE *)painted(0, MOST * sizeof(struct TYPE)); \
+        struct zacpi_signature *const named = (struct zacpi_signature *)painted(1, sizeof *named); \
+        size_t *const count = (size_t *)painted(2, sizeof *count); \
         const struct TYPE *it; \
         const zacpi_status refused = CALL ASKED; \
-        if (refused) print_error(NAME, refused, &named); \
-        else printf("%s %lu\n", NAME, (unsigned long)count); \
-        for (it = items; !refused && it < items + (count < MOST ? count : MOST); it++) printf("  " __VA_ARGS__); \
+        if (refused) print_error(NAME, refused, named); \
+        else printf("%s %lu\n", NAME, (unsigned long)*count); \
+        for (it = items; !refused && it < items + (*count < MOST ? *count : MOST); it++) printf("  " __VA_ARGS__); \
     } while (0)
-#define ALL (source, items, MOST, &count, &named)
+#define ALL (source, items, MOST, count, named)
 
 /* One item, `it`, and its line, or an error. */
 #define ONE(NAME, TYPE, CALL, ASKED, ...) \
     do { \
-        TYPE item; \
-        const TYPE *const it = &item; \
-        struct zacpi_signature named = {{0}}; \
+        TYPE *const item = (TYPE *)painted(0, sizeof(TYPE)); \
+        const TYPE *const it = item; \
+        struct zacpi_signature *const named = (struct zacpi_signature *)painted(1, sizeof *named); \
         const zacpi_status refused = CALL ASKED; \
-        if (refused) print_error(NAME, refused, &named); \
+        if (refused) print_error(NAME, refused, named); \
         else printf(NAME " " __VA_ARGS__); \
     } while (0)
-#define IT (source, &item, &named)
+#define IT (source, item, named)
 
 /* Whether a table isn't there, or nothing of it: then that is the one line. */
 static int is_missing(const char *name, zacpi_status status, const struct zacpi_signature *named) {
@@ -83,12 +90,12 @@ static void print_tables(const struct zacpi_source *source) {
     LIST("ranges", zacpi_range, zacpi_list_ranges, ALL, "%llx %llx\n", (wide)it->address, (wide)it->length);
     for (i = 0; i < sizeof looked_up / sizeof *looked_up; i++) {
         const struct zacpi_signature wanted = zacpi_signature_of(looked_up[i]);
-        ONE("find", struct zacpi_table, zacpi_find_table, (source, wanted, &item, &named), "%llx %u %u " IDS "\n",
+        ONE("find", struct zacpi_table, zacpi_find_table, (source, wanted, item, named), "%llx %u %u " IDS "\n",
             (wide)it->address, it->length, it->revision, IDS_OF(it));
         for (k = 0; k < 3; k++)
-            ONE("nth", struct zacpi_table, zacpi_find_nth_table, (source, wanted, k, &item, &named), "%llx\n",
+            ONE("nth", struct zacpi_table, zacpi_find_nth_table, (source, wanted, k, item, named), "%llx\n",
                 (wide)it->address);
-        LIST("faults", zacpi_fault, zacpi_list_faults, (source, wanted, items, MOST, &count, &named), "%llx %s\n",
+        LIST("faults", zacpi_fault, zacpi_list_faults, (source, wanted, items, MOST, count, named), "%llx %s\n",
              (wide)it->address, zacpi_status_name(it->status));
     }
     ONE("aml", struct zacpi_aml_table, zacpi_get_dsdt, IT, "%u %llx\n", it->revision, (wide)it->table_address);
@@ -170,8 +177,8 @@ static void print_power(const struct zacpi_source *source) {
     struct zacpi_signature named = {{0}};
     struct zacpi_plan plan;
     for (i = 0; i < 7; i++)
-        ONE("sleep_types", struct zacpi_sleep_types, zacpi_get_sleep_types, (source, i, &item, &named), "%u %u\n",
-            it->a, it->b);
+        ONE("sleep_types", struct zacpi_sleep_types, zacpi_get_sleep_types, (source, i, item, named), "%u %u\n", it->a,
+            it->b);
     for (i = 1; i < 7; i += 2) print_plan("sleep", zacpi_get_sleep_plan(source, i, &plan, &named), &plan, &named);
     print_plan("power_off", zacpi_get_power_off_plan(source, &plan, &named), &plan, &named);
     print_plan("reset_plan", zacpi_get_reset_plan(source, &plan, &named), &plan, &named);
@@ -201,7 +208,7 @@ static void print_devices(const struct zacpi_source *source) {
          (wide)it->address, (wide)it->length);
     for (i = 0; i < 256; i += 51)
         ONE("function", uint64_t, zacpi_pci_ecam_address,
-            (source, i / 204, (uint8_t)i, (uint8_t)(i % 33), (uint8_t)(i % 9), &item, &named), "%llx\n", (wide)*it);
+            (source, i / 204, (uint8_t)i, (uint8_t)(i % 33), (uint8_t)(i % 9), item, named), "%llx\n", (wide)*it);
 }
 
 static void print_interrupts(const struct zacpi_source *source) {
@@ -226,11 +233,11 @@ static void print_interrupts(const struct zacpi_source *source) {
     ONE("sci", struct zacpi_interrupt, zacpi_get_sci_interrupt, IT, "%u %u %u\n", it->global_system_interrupt,
         it->polarity, it->trigger);
     for (i = 0; i < 17; i++)
-        ONE("isa", struct zacpi_interrupt, zacpi_get_isa_interrupt, (source, (uint8_t)i, &item, &named), "%u %u %u\n",
+        ONE("isa", struct zacpi_interrupt, zacpi_get_isa_interrupt, (source, (uint8_t)i, item, named), "%u %u %u\n",
             it->global_system_interrupt, it->polarity, it->trigger);
     for (i = 0; i < 64; i += 9)
-        ONE("pin", struct zacpi_io_apic_pin, zacpi_get_io_apic_pin, (source, i, &item, &named), "%u %u\n",
-            it->io_apic.id, it->pin);
+        ONE("pin", struct zacpi_io_apic_pin, zacpi_get_io_apic_pin, (source, i, item, named), "%u %u\n", it->io_apic.id,
+            it->pin);
     if (zacpi_get_isa_interrupts(source, &all, &named)) return;
     for (i = 0; i < 16; i++) {
         const struct zacpi_isa_route *r = &all.routes[i];
@@ -321,9 +328,9 @@ static void print_domains(const struct zacpi_source *source) {
         LIST("srat_faults", zacpi_entry_fault, zacpi_list_srat_faults, ALL, "%llx %u %s\n", (wide)it->address,
              it->entry_type, error_name(it->status));
     for (i = 0; is_there && i < 5; i++) {
-        ONE("near", uint32_t, zacpi_domain_of_address, (source, (uint64_t)i << 30, &item, &named), "%u\n", *it);
-        ONE("apic", uint32_t, zacpi_domain_of_apic, (source, i, &item, &named), "%u\n", *it);
-        ONE("uid", uint32_t, zacpi_domain_of_processor, (source, i, &item, &named), "%u\n", *it);
+        ONE("near", uint32_t, zacpi_domain_of_address, (source, (uint64_t)i << 30, item, named), "%u\n", *it);
+        ONE("apic", uint32_t, zacpi_domain_of_apic, (source, i, item, named), "%u\n", *it);
+        ONE("uid", uint32_t, zacpi_domain_of_processor, (source, i, item, named), "%u\n", *it);
     }
     ONE("slit", struct zacpi_localities, zacpi_get_localities, IT, "%llx %u\n", (wide)it->localities, it->is_sane);
     for (i = 0; i < 4; i++)
@@ -347,10 +354,10 @@ static void print_dmar(const struct zacpi_source *source) {
     ONE("dmar_flags", struct zacpi_dmar_flags, zacpi_get_dmar_flags, IT, "%u %u\n", it->address_bits, it->flags);
     for (i = 0; i < 6; i++) {
         const struct zacpi_hop *hops = paths[i / 2];
-        ONE("unit", struct zacpi_dmar_unit, zacpi_get_dmar_unit, (source, 0, 0, hops, 1 + i % 2, &item, &named),
+        ONE("unit", struct zacpi_dmar_unit, zacpi_get_dmar_unit, (source, 0, 0, hops, 1 + i % 2, item, named),
             "%llx %llx %u %u\n", (wide)it->register_base, (wide)it->register_bytes, it->segment, it->includes_pci_all);
         LIST("reserved", zacpi_dmar_reserved, zacpi_list_dmar_reserved,
-             (source, 0, 0, hops, 1 + i % 2, items, MOST, &count, &named), "%llx %llx %u\n", (wide)it->base,
+             (source, 0, 0, hops, 1 + i % 2, items, MOST, count, named), "%llx %llx %u\n", (wide)it->base,
              (wide)it->limit, it->segment);
     }
     LIST("units", zacpi_dmar_unit, zacpi_list_dmar_units, ALL, "%llx %llx %u %u %u %u\n", (wide)it->register_base,
@@ -363,16 +370,16 @@ static void print_dmar(const struct zacpi_source *source) {
          it->domain);
     for (i = 0; i < 6; i++)
         LIST("scopes", zacpi_dmar_scope, zacpi_list_dmar_structure_scopes,
-             (source, i % 3, i / 3, items, MOST, &count, &named), "%u %u %u %u %lu %u %u %u %u\n", it->scope_type,
+             (source, i % 3, i / 3, items, MOST, count, named), "%u %u %u %u %lu %u %u %u %u\n", it->scope_type,
              it->flags, it->enumeration_id, it->bus, (unsigned long)it->path_length, it->path[0].device,
              it->path[0].function, it->path[15].device, it->path[15].function);
     LIST("dmar_faults", zacpi_entry_fault, zacpi_list_dmar_faults, ALL, "%llx %u %s\n", (wide)it->address,
          it->entry_type, error_of(it->status));
     for (i = 0; i < 9; i++)
-        ONE("of_io_apic", struct zacpi_dmar_source, zacpi_get_dmar_io_apic, (source, (uint8_t)i, &item, &named),
+        ONE("of_io_apic", struct zacpi_dmar_source, zacpi_get_dmar_io_apic, (source, (uint8_t)i, item, named),
             "%llx %u %u %u %u\n", (wide)it->unit.register_base, it->bus, it->has_hop, it->hop.device, it->hop.function);
     for (i = 0; i < 2; i++)
-        ONE("of_hpet", struct zacpi_dmar_source, zacpi_get_dmar_hpet, (source, (uint8_t)i, &item, &named),
+        ONE("of_hpet", struct zacpi_dmar_source, zacpi_get_dmar_hpet, (source, (uint8_t)i, item, named),
             "%llx %u %u %u %u\n", (wide)it->unit.register_base, it->bus, it->has_hop, it->hop.device, it->hop.function);
 }
 
@@ -386,7 +393,7 @@ static void print_ivrs(const struct zacpi_source *source) {
          (wide)it->base, (wide)it->extended_features, it->features, it->segment, it->device_id, it->capability_offset,
          it->info, it->block_type, it->flags, it->has_extended_features);
     for (i = 0; i < 3; i++)
-        LIST("ivrs_entries", zacpi_ivrs_entry, zacpi_list_ivrs_entries, (source, i, items, MOST, &count, &named),
+        LIST("ivrs_entries", zacpi_ivrs_entry, zacpi_list_ivrs_entries, (source, i, items, MOST, count, named),
              "%u %u %u %u %u %u %u %u %x %llx %llx %lu %llx %u\n", it->entry_type, it->settings, it->handle,
              it->variety, it->unique_id_format, it->first, it->last, it->source_id, it->extended_settings,
              number_of(it->hardware_id, 8), number_of(it->compatible_id, 8), (unsigned long)it->unique_id_length,
@@ -396,12 +403,12 @@ static void print_ivrs(const struct zacpi_source *source) {
     LIST("ivrs_faults", zacpi_entry_fault, zacpi_list_ivrs_faults, ALL, "%llx %u %s\n", (wide)it->address,
          it->entry_type, error_of(it->status));
     for (i = 0; i < 0x200; i += 0x28) {
-        ONE("ivrs", struct zacpi_ivrs_device, zacpi_get_ivrs_unit, (source, 0, (uint16_t)i, &item, &named),
+        ONE("ivrs", struct zacpi_ivrs_device, zacpi_get_ivrs_unit, (source, 0, (uint16_t)i, item, named),
             "%llx %u %llx %x %u %u %u %u %u %u %u %u\n", (wide)it->unit.base, it->unit.has_extended_features,
             (wide)it->unit.extended_features, it->unit.features, it->unit.segment, it->unit.device_id,
             it->unit.capability_offset, it->unit.info, it->unit.block_type, it->unit.flags, it->source_id,
             it->settings);
-        LIST("rules", zacpi_ivrs_memory, zacpi_list_ivrs_memory, (source, (uint16_t)i, items, MOST, &count, &named),
+        LIST("rules", zacpi_ivrs_memory, zacpi_list_ivrs_memory, (source, (uint16_t)i, items, MOST, count, named),
              "%llx %llx %u %u %u %u\n", (wide)it->start, (wide)it->length, it->device_id, it->auxiliary, it->block_type,
              it->flags);
     }

@@ -3,6 +3,8 @@
 #define ANSWERS_H
 #include "lines.h"
 
+/* Where outputs are from now on, of which edges.h has the numbers. */
+void answer_at(int where);
 /* The memory that is missing and the RSDP, also if the tables aren't opened. */
 void print_missing(const struct zacpi_source *source);
 /* What every other call answers that reads tables. */

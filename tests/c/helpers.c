@@ -1,8 +1,8 @@
 /* Calls what the C of scripts/ir2c stands on, with results that were worked out by hand: rows of the library see few of
  * these numbers. Where a processor of 32 bits has a way of its own, that is what is called there. Ends with status 1 if
- * a result is another. */
-#include "zacpi.h"
-#include <stdio.h>
+ * a result is another. Run with `end` or `begin`, memory is at pages that can't be touched (edges.h). */
+#define _DEFAULT_SOURCE
+#include "edges.h"
 
 #include "../../scripts/ir2c_head.c"
 
@@ -158,10 +158,48 @@ static void check_bits(void) {
     IS(fshl64(0x0123456789abcdef, 0xfedcba9876543210, 40), 0xabcdeffedcba9876);
 }
 
+/* The last bytes, each by what has its width, and the first ones. */
+static void check_edges(u8 *bytes, u8 *copied) {
+    IS(load16(bytes + 70), 0x4847);
+    IS(load32(bytes + 68), 0x48474645);
+    IS(load64(bytes + 64), 0x4847464544434241);
+    IS(load16u(bytes + 70), 0x4847);
+    IS(load32u(bytes + 68), 0x48474645);
+    IS(load64u(bytes + 64), 0x4847464544434241);
+    IS(load_address(bytes + 64), (uptr)0x4847464544434241);
+    IS(load_bytes(bytes + 69, 3), 0x484746);
+    IS(load_bytes(bytes + 65, 7), 0x48474645444342);
+    copy_most((uptr)copied, (uptr)(bytes + 64), 8, 8);
+    IS(load64(copied), 0x4847464544434241);
+    copy((uptr)(bytes + 64), (uptr)bytes, 8);
+    IS(load64(bytes + 64), 0x0807060504030201);
+    move((uptr)(bytes + 65), (uptr)(bytes + 64), 7);
+    IS(load64(bytes + 64), 0x0706050403020101);
+    fill((uptr)(bytes + 69), 9, 3);
+    IS(load64(bytes + 64), 0x0909090403020101);
+    fill((uptr)copied, 9, 1);
+    IS(load64(copied), 0x4847464544434209);
+    store16(bytes + 70, 0x1211);
+    IS(load32(bytes + 68), 0x12110904);
+    store16u(bytes + 70, 0x2221);
+    IS(load32(bytes + 68), 0x22210904);
+    store32u(bytes + 68, 0x34333231);
+    IS(load64(bytes + 64), 0x3433323103020101);
+    store32(bytes + 68, 0x44434241);
+    IS(load64(bytes + 64), 0x4443424103020101);
+    store_bytes(bytes + 69, 0x535251, 3);
+    IS(load64(bytes + 64), 0x5352514103020101);
+    store64u(bytes + 64, 7);
+    IS(load64(bytes + 64), 7);
+    store_address(bytes + 64, 8);
+    IS(load64(bytes + 64), 8);
+}
+
 static void check_memory(void) {
-    ALIGNED(8) u8 bytes[72];
-    u8 copied[8];
+    u8 *const bytes = (u8 *)painted_at_edge(72), *const copied = (u8 *)painted_at_edge(8);
     int i;
+    for (i = 0; i < 72; i++) bytes[i] = (u8)(i + 1);
+    check_edges(bytes, copied);
     for (i = 0; i < 72; i++) bytes[i] = (u8)(i + 1);
     IS(load16(bytes), 0x0201);
     IS(load32(bytes), 0x04030201);
@@ -213,10 +251,10 @@ static void check_memory(void) {
 }
 
 static void check_lanes(void) {
-    u8 bytes[65], ones[16];
+    u8 *const bytes = (u8 *)painted_at_edge(64), *const ones = (u8 *)painted_at_edge(16);
     lanes sum;
     int i;
-    for (i = 0; i < 65; i++) bytes[i] = (u8)(255 - i);
+    for (i = 0; i < 64; i++) bytes[i] = (u8)(255 - i);
     memset(ones, 1, 16);
     IS(lanes_sum(lanes_load(ones)), 16);
     /* 255 down to 240: sixteen times 255, less 0 + 1 + .. + 15, which is 120; 3960 modulo 256 */
@@ -231,7 +269,8 @@ static void check_lanes(void) {
     IS(sum_words(bytes, 6), 24); /* 0, 2, 2, 4, 4, 6, 6 and 0 */
 }
 
-int main(void) {
+int main(int argc, char **argv) {
+    if (!edge_of(argc, argv)) return 2;
     check_division();
     check_sums_and_products();
     check_bits();

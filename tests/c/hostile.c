@@ -1,8 +1,11 @@
 /* hostile IMAGE START N COPIES: what the library answers over N damaged copies of an image, the same each time: the
  * lines of acpi_view, and after them those of every other call that reads tables. It writes the copies into the file
- * COPIES, each after its length of eight bytes, so that another caller can be asked the same. */
+ * COPIES, each after its length of eight bytes, so that another caller can be asked the same. With `end` or `begin`
+ * after that, each region and what is written are at pages that can't be touched (edges.h). */
+#define _DEFAULT_SOURCE
 #include "answers.h"
 #include "damage.h"
+#include "edges.h"
 #include "image.h"
 #include "start.h"
 
@@ -11,6 +14,19 @@ static void to_file(void *to, const char *bytes, size_t length) { fwrite(bytes, 
 enum { MOST = 65536 };
 static struct zacpi_region regions[MOST];
 
+/* Puts the regions at the edge, and returns their list there. */
+static const struct zacpi_region *at_edges(size_t count) {
+    static struct again list, bytes[MOST];
+    struct zacpi_region *const copies = (struct zacpi_region *)again_at_edge(&list, count * sizeof *copies);
+    size_t i;
+    for (i = 0; i < count; i++) {
+        uint8_t *const to = (uint8_t *)again_at_edge(&bytes[i], (size_t)regions[i].length);
+        copies[i] = regions[i];
+        copies[i].bytes = (const uint8_t *)memcpy(to, regions[i].bytes, (size_t)regions[i].length);
+    }
+    return copies;
+}
+
 static void over(const uint8_t *image, size_t length, struct zacpi_source source, const uint8_t *revision) {
     struct printer out = {to_file, NULL}, err = {to_file, NULL};
     struct zacpi_signature named = {{0}};
@@ -18,7 +34,7 @@ static void over(const uint8_t *image, size_t length, struct zacpi_source source
     const char *unread = regions_of(image, length, regions, MOST, &source.regions_length);
     out.to = stdout;
     err.to = stderr;
-    source.regions = regions;
+    source.regions = edge == NO_EDGE || unread ? regions : at_edges((size_t)source.regions_length);
     if (unread) {
         fprintf(stderr, "refused: %s\n", unread);
         return;
@@ -32,10 +48,13 @@ static void over(const uint8_t *image, size_t length, struct zacpi_source source
 int main(int argc, char **argv) {
     struct zacpi_source source = {0};
     uint8_t revision = 0, *image, *copy;
-    const int taken = start_of(argc, argv, &source, &revision);
     size_t length, i;
     zacpi_size count;
     FILE *copies;
+    int taken;
+    take_edge(&argc, argv);
+    answer_at(edge);
+    taken = start_of(argc, argv, &source, &revision);
     if (!taken || argc != taken + 2) return 2;
     image = contents(argv[1], &length);
     copies = fopen(argv[taken + 1], "wb");

@@ -1,7 +1,8 @@
 /* mapped IMAGE rsdt REVISION ADDRESS N | rsdp ADDRESS N | bios N: whether zacpi_map_tables leads to the answers over
  * the whole memory of an image, and of N copies of it of which some bytes are changed and a part is missing, the same
  * each time. `bios` tries both searches.
- * mapped: whether the machines of mapped_rows.h are mapped as they have to be. */
+ * mapped: whether the machines of mapped_rows.h are mapped as they have to be.
+ * With `end` or `begin` as the last word, what is mapped and the lists of it are at pages that can't be touched. */
 #define _DEFAULT_SOURCE
 #include "chance.h"
 #include "image.h"
@@ -74,11 +75,13 @@ static zacpi_status run(struct zacpi_source source, size_t capacity, size_t room
     is_searching = searches;
     are_kept = room == MOST;
     source.regions_length = 0;
-    regions[capacity].length = ranges[room].length = 12345;
+    make_lists(capacity, room);
+    if (edge != AT_END) regions[capacity].length = ranges[room].length = 12345;
     status = zacpi_map_tables(&mapper, &source, regions, capacity, ranges, room);
     was_lost = 0;
     for (i = 0; i < mapped_count && !searches; i++) was_lost |= !is_held(mapped[i].address, mapped[i].length);
-    if (regions[capacity].length != 12345 || ranges[room].length != 12345) end("something is written past the room");
+    if (edge != AT_END && (regions[capacity].length != 12345 || ranges[room].length != 12345))
+        end("something is written past the room");
     if (mapped_now != source.regions_length) end("more is mapped than there are regions");
     if (status != ZACPI_OK && mapped_now) end("an error, and something is mapped");
     if (mapped_now > mapped_most) mapped_most = mapped_now;
@@ -177,8 +180,9 @@ int main(int argc, char **argv) {
     struct zacpi_source whole = {0};
     uint8_t revision, *image, *places[4], was[4];
     size_t length, changed, i, runs;
-    const int taken = start_of(argc, argv, &whole, &revision);
-    int agreed;
+    int agreed, taken;
+    take_edge(&argc, argv);
+    taken = start_of(argc, argv, &whole, &revision);
     if (argc == 1) return !(maps_wanted() && maps_searches());
     if (!taken || argc != taken + 1) return wrong("IMAGE START N") + 2;
     image = contents(argv[1], &length);

@@ -106,6 +106,7 @@ static int maps(const struct want *want) {
     memcpy(wanted, want->names, length);
     unit = want->page & (0 - want->page);
     are_kept = is_searching = 0;
+    make_lists(want->capacity, want->room);
     agreed =
         !zacpi_map_wanted_tables(&mapper, &source, wanted, length / 4, regions, want->capacity, ranges, want->room);
     for (i = 0; i < source.regions_length && i < 8; i++)
@@ -233,6 +234,7 @@ static int finds(const struct search *search) {
     unit = search->page;
     are_kept = 0;
     is_searching = 1;
+    make_lists(search->capacity, search->room);
     status = zacpi_map_tables(&mapper, &source, regions, search->capacity, ranges, search->room);
     if (status || search->status) return forget(), status == search->status && !source.regions_length;
     opened = zacpi_open(&source, &root, NULL);

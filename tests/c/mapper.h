@@ -1,21 +1,26 @@
 /* A mapper for zacpi_map.h that counts what it maps. Pages without access are before and after each range that it maps,
- * and what it unmaps becomes such pages, so reading them ends the program. */
+ * and what it unmaps becomes such pages, so reading them ends the program. A range ends at such a page, or with the
+ * word `begin` begins after one. */
 #ifndef MAPPER_H
 #define MAPPER_H
+#include "edges.h"
 #include "zacpi_map.h"
-#include <stdio.h>
-#include <stdlib.h>
-#include <string.h>
-#include <sys/mman.h>
 
 enum { PAGE = 4096, MOST = 4096 };
 
 /* The memory that there is, in ascending order, none of which touches. */
 static struct zacpi_region there[MOST + 1];
 static size_t there_count;
-/* What is mapped of it, and what was asked for and isn't. */
-static struct zacpi_region regions[MOST + 1];
-static struct zacpi_range ranges[MOST + 1];
+/* What is mapped of it, and what was asked for and isn't: at the edge (edges.h), and else before one more of each. */
+static struct zacpi_region *regions;
+static struct zacpi_range *ranges;
+static void make_lists(size_t capacity, size_t room) {
+    static struct again areas[2];
+    again_at_edge(&areas[0], (MOST + 1) * sizeof *regions);
+    again_at_edge(&areas[1], (MOST + 1) * sizeof *ranges);
+    regions = (struct zacpi_region *)again_at_edge(&areas[0], capacity * sizeof *regions);
+    ranges = (struct zacpi_range *)again_at_edge(&areas[1], room * sizeof *ranges);
+}
 /* The mapper's page: each range begins and ends at a multiple of it. */
 static uint64_t unit;
 
@@ -71,7 +76,7 @@ static const void *map(void *context, uint64_t address, uint64_t length) {
     }
     base = (uint8_t *)mmap(NULL, size + 2 * PAGE, PROT_NONE, MAP_PRIVATE | MAP_ANONYMOUS, -1, 0);
     if (base == MAP_FAILED || mprotect(base + PAGE, size, PROT_READ | PROT_WRITE)) end("map: no memory");
-    at = base + PAGE + (size - length);
+    at = base + PAGE + (edge == AT_BEGIN ? 0 : size - length);
     memcpy(at, there[i].bytes + (address - there[i].address), (size_t)length);
     if (mprotect(base + PAGE, size, PROT_READ)) end("map: no protection");
     mapped[mapped_count].address = address;

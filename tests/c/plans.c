@@ -1,12 +1,15 @@
-/* plans: examples/c/plan.c over registers in an array, which no map of a kernel's is between. */
+/* plans: examples/c/plan.c over registers in an array, which no map of a kernel's is between. Run with `end` or
+ * `begin`, the registers and each plan are at pages that can't be touched (edges.h). */
+#define _DEFAULT_SOURCE
+#include "edges.h"
 #include "plan.h"
-#include <stdio.h>
 
-static uint16_t registers[8]; /* of which the last isn't mapped */
+enum { MAPPED = 14 };
+static uint16_t *registers;
 static int failed;
 
 static volatile void *map(uint64_t address) {
-    return address < sizeof registers - 2 ? (volatile uint8_t *)registers + address : NULL;
+    return address < MAPPED ? (volatile uint8_t *)registers + address : NULL;
 }
 static struct zacpi_step step(uint64_t address, uint8_t width, uint32_t mask, uint32_t value, uint8_t kind) {
     struct zacpi_step made = {{{0, ZACPI_SPACE_SYSTEM_MEMORY, 0, 0, 0}, 1}, 0, 0, 0, 0};
@@ -22,7 +25,7 @@ static void check(const char *name, struct zacpi_step tried, uint32_t run, uint1
     plan.steps[0] = step(2, 16, 0xffff, 0x1234, ZACPI_STEP_WRITE);
     plan.steps[1] = tried;
     plan.steps[2] = step(4, 8, 0xff, 0x56, ZACPI_STEP_WRITE);
-    done = run_plan(&plan, map);
+    done = run_plan(COPIED(plan), map);
     if (done == run && registers[0] == first && registers[1] == 0x1234 && registers[2] == (run == 3 ? 0x56 : 0)) return;
     printf("%s: %u steps, %x %x %x\n", name, done, registers[0], registers[1], registers[2]);
     failed = 1;
@@ -35,14 +38,16 @@ static void check_last(const char *name, uint16_t bit, uint32_t run, uint16_t wr
     registers[0] = bit, registers[2] = 0;
     plan.steps[0] = step(4, 8, 0xff, 0x56, ZACPI_STEP_WRITE);
     plan.steps[1] = step(0, 16, 1, 1, ZACPI_STEP_WAIT);
-    done = run_plan(&plan, map);
+    done = run_plan(COPIED(plan), map);
     if (done == run && registers[2] == written) return;
     printf("%s: %u steps, %x\n", name, done, registers[2]);
     failed = 1;
 }
 
-int main(void) {
+int main(int argc, char **argv) {
     struct zacpi_step other = step(0, 16, 1, 1, ZACPI_STEP_WRITE);
+    if (!edge_of(argc, argv)) return 2;
+    registers = painted_at_edge(MAPPED);
     check("bits 10 to 13 of 16", step(0, 16, 0x3c00, 0x3400, ZACPI_STEP_WRITE), 3, 0xb605);
     check("bits of the value that the mask hasn't", step(0, 16, 0x3c00, 0xffff, ZACPI_STEP_WRITE), 3, 0xbe05);
     check("bits 2 to 5 of 8", step(0, 8, 0x3c, 0x34, ZACPI_STEP_WRITE), 3, 0x8a35);

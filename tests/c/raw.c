@@ -1,13 +1,11 @@
 /* raw: the inlines over bytes. Whether zacpi_wake_processor writes a mailbox as it has to, byte by byte, without a
  * firmware and with one, which is another process over the same memory; which accesses it makes, in which order; the
  * lengths of a HEST's structures; what the structs of an RHCT have of one that was written; and a table that is changed
- * in place. */
+ * in place. A mailbox is between pages that can't be touched, and with `end` or `begin` all else is beside one too
+ * (edges.h). */
 #define _GNU_SOURCE
-#include "zacpi.h"
+#include "edges.h"
 #include "zacpi_tables.h"
-#include <stdio.h>
-#include <string.h>
-#include <sys/mman.h>
 #include <sys/wait.h>
 #include <unistd.h>
 
@@ -139,25 +137,28 @@ static void wakes_by_a_script(uint8_t *bytes) {
 static void wakes_by_a_script(uint8_t *bytes) { (void)bytes; }
 #endif
 
+static size_t source_length(const uint8_t *bytes, size_t length) {
+    return zacpi_raw_hest_source_length((const uint8_t *)at_edge(bytes, length), length);
+}
 /* After the count, at 36, of four structures (section 18.3.2): type 2, NMI, of 20 bytes; type 0 with two banks, at 32,
  * of 40 and 28 bytes each; type 9 of 64; and type 3, which is reserved, with 5 bytes left. */
 static void walks_a_hest(void) {
-    static uint8_t hest[40 + 20 + 96 + 64 + 5];
+    enum { SIZE_OF_HEST = 40 + 20 + 96 + 64 + 5 };
     static const size_t lengths[] = {20, 96, 64, 0};
+    uint8_t hest[SIZE_OF_HEST] = {0};
     size_t at = 40, i;
     hest[40] = 2;
     hest[60 + 32] = 2;
     hest[156] = 9;
     hest[220] = 3;
-    for (i = 0; i < 4; at += lengths[i++])
-        EXPECT(zacpi_raw_hest_source_length(hest + at, sizeof hest - at) == lengths[i]);
+    for (i = 0; i < 4; at += lengths[i++]) EXPECT(source_length(hest + at, sizeof hest - at) == lengths[i]);
     /* Too few bytes are left for the structure, for the number of its banks, and for its type. */
-    EXPECT(zacpi_raw_hest_source_length(hest + 40, 19) == 0 && zacpi_raw_hest_source_length(hest + 40, 20) == 20);
-    EXPECT(zacpi_raw_hest_source_length(hest + 60, 95) == 0 && zacpi_raw_hest_source_length(hest + 60, 32) == 0);
-    EXPECT(zacpi_raw_hest_source_length(hest + 40, 1) == 0 && zacpi_raw_hest_source_length(hest + 40, 0) == 0);
+    EXPECT(source_length(hest + 40, 19) == 0 && source_length(hest + 40, 20) == 20);
+    EXPECT(source_length(hest + 60, 95) == 0 && source_length(hest + 60, 32) == 0);
+    EXPECT(source_length(hest + 40, 1) == 0 && source_length(hest + 40, 0) == 0);
     /* The type has two bytes. */
     hest[41] = 1;
-    EXPECT(zacpi_raw_hest_source_length(hest + 40, 20) == 0);
+    EXPECT(source_length(hest + 40, 20) == 0);
 }
 /* A field of a table is read by the struct that has it: bytes have no alignment. */
 #define RAW(type, from) (memcpy(&(type), table + (from), sizeof(type)), (type))
@@ -167,17 +168,19 @@ static void walks_a_hest(void) {
 static void reads_an_rhct(void) {
     static const struct zacpi_table_ids ids = {{'G'}, {'M'}, 1, {'Z'}, 1};
     static const uint32_t harts[] = {7, 0x01020304};
-    const struct zacpi_rhct_contents contents = {(const uint8_t *)"rv64i", 5, harts, 2, 10000000, 1};
-    uint8_t table[128];
-    size_t length = 0, at = 56, i;
+    const struct zacpi_rhct_contents contents = {
+        (const uint8_t *)at_edge("rv64i", 5), 5, COPIED(harts), 2, 10000000, 1};
+    enum { SIZE_OF_RHCT = 56 + 14 + 2 * 16 };
+    uint8_t *const table = (uint8_t *)painted_at_edge(SIZE_OF_RHCT);
+    size_t *const length = PAINTED(size_t), at = 56, i;
     struct zacpi_raw_rhct rhct;
     struct zacpi_raw_rhct_node_isa_string_node isa;
     struct zacpi_raw_rhct_node_hart_info_node hart;
     uint32_t offset;
-    EXPECT(!zacpi_write_rhct(&ids, &contents, table, sizeof table, &length) && length == 56 + 14 + 2 * 16);
+    EXPECT(!zacpi_write_rhct(COPIED(ids), COPIED(contents), table, SIZE_OF_RHCT, length) && *length == SIZE_OF_RHCT);
     EXPECT(RAW(rhct, 0).flags == ZACPI_RAW_RHCT_FLAGS_TIMER_CANNOT_WAKE_THE_PROCESSOR);
     EXPECT(rhct.time_base_frequency == 10000000 && rhct.number_of_rhct_nodes == 3);
-    EXPECT(rhct.offset_to_the_rhct_node_array == at && rhct.header.length == length);
+    EXPECT(rhct.offset_to_the_rhct_node_array == at && rhct.header.length == *length);
     EXPECT(RAW(isa, at).type == ZACPI_RAW_RHCT_NODE_TYPE_ISA_STRING_NODE && isa.revision == 1 && isa.length == 14);
     EXPECT(isa.isa_length == 6 && !memcmp(table + at + sizeof isa, "rv64i", 6));
     for (at += isa.length, i = 0; i < 2; at += hart.length, i++) {
@@ -185,25 +188,34 @@ static void reads_an_rhct(void) {
         EXPECT(hart.length == 16 && hart.number_of_offsets == 1 && hart.acpi_processor_uid == harts[i]);
         EXPECT(RAW(offset, at + sizeof hart) == 56);
     }
-    EXPECT(at == length);
+    EXPECT(at == *length);
 }
 /* A DMAR's Signature, which sums to 0x44 + 0x4d + 0x41 + 0x52 = 0x124, and its Length, 0x30: 0x154, with Checksum 0xac.
  * Of "XMAR" they sum to 0x168, with Checksum 0x98. */
 static void sums_bytes(void) {
-    uint8_t table[48] = {'D', 'M', 'A', 'R', 48, 0, 0, 0, 0, 0xac};
-    EXPECT(zacpi_byte_sum(table, 4) == 0x24 && zacpi_byte_sum(table, 5) == 0x54 && zacpi_byte_sum(table, 0) == 0);
-    EXPECT(zacpi_byte_sum(table, sizeof table) == 0);
+    static const uint8_t head[48] = {'D', 'M', 'A', 'R', 48, 0, 0, 0, 0, 0xac};
+    uint8_t *const table = (uint8_t *)COPIED(head);
+    EXPECT(zacpi_byte_sum((uint8_t *)at_edge(table, 4), 4) == 0x24);
+    EXPECT(zacpi_byte_sum((uint8_t *)at_edge(table, 5), 5) == 0x54 && zacpi_byte_sum(table, 0) == 0);
+    EXPECT(zacpi_byte_sum(table, sizeof head) == 0);
     table[0] = 'X';
-    EXPECT(zacpi_byte_sum(table, sizeof table) == 0x14);
-    zacpi_set_checksum(table, sizeof table);
-    EXPECT(table[9] == 0x98 && zacpi_byte_sum(table, sizeof table) == 0);
-    zacpi_set_checksum(table, sizeof table);
+    EXPECT(zacpi_byte_sum(table, sizeof head) == 0x14);
+    zacpi_set_checksum(table, sizeof head);
+    EXPECT(table[9] == 0x98 && zacpi_byte_sum(table, sizeof head) == 0);
+    zacpi_set_checksum(table, sizeof head);
     EXPECT(table[9] == 0x98);
 }
 
-int main(void) {
-    uint8_t *bytes = (uint8_t *)mmap(NULL, SIZE, PROT_READ | PROT_WRITE, MAP_SHARED | MAP_ANONYMOUS, -1, 0);
-    if (bytes == MAP_FAILED) return 1;
+/* Memory that another process shares, of a page. */
+static uint8_t *shared(void) {
+    uint8_t *base = (uint8_t *)mmap(NULL, 3 * SIZE, PROT_NONE, MAP_SHARED | MAP_ANONYMOUS, -1, 0);
+    if (base == MAP_FAILED || mprotect(base + SIZE, SIZE, PROT_READ | PROT_WRITE)) exit(2);
+    return base + SIZE;
+}
+
+int main(int argc, char **argv) {
+    uint8_t *const bytes = shared();
+    if (!edge_of(argc, argv)) return 2;
     wakes_nobody(bytes);
     wakes(bytes);
     wakes_by_a_script(bytes);
