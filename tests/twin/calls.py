@@ -3,7 +3,8 @@
 """calls.py FOLDER: makes in FOLDER what tests/twin is built over: rust, the Rust package with its records laid out as
 C's; src/exports.rs, the exports of crates/acpi_c without what Rattle has beyond Rust, as functions of Rust; and
 src/calls.rs: the records of include/zacpi.h with the places of their fields, and of each call what each argument is,
-the export of the C library, and the function of Rust that has the same words."""
+the export of the C library, and the function of Rust that has the same words; and calls.c, which makes the calls by
+their numbers for child.c."""
 import importlib.machinery
 import importlib.util
 import re
@@ -45,21 +46,24 @@ class Records:
     """The records of the header, and numbers as records of one field, in the order in which calls need them."""
 
     def __init__(self):
-        self.all, self.places = [], {}  # (name, size, alignment, [(name, at, size, item, changed)])
+        # (name, size, alignment, [(name, at, size, item, changed)], [(at, the record that is there)])
+        self.all, self.places = [], {}
 
     def record(self, kind):
         """The index of a record."""
         kind = kind.replace('const ', '').replace('struct ', '').rstrip(' *')
         if kind not in self.places:
             size = NUMBERS.get(kind)
-            made = (RUST[size], size, size, [('', 0, size, -1, False)]) if size else (kind, *self.laid(structs[kind]))
+            made = ((RUST[size], size, size, [('', 0, size, -1, False)], []) if size else
+                    (kind, *self.laid(structs[kind])))
             self.all.append(made)
             self.places[kind] = len(self.all) - 1
         return self.places[kind]
 
     def laid(self, fields):
-        """The size, the alignment and the numbers of a record. A list, a pointer and its length, is one of them."""
-        at, most, made = 0, 1, []
+        """The size, the alignment, the numbers and the records of a record. A list, a pointer and its length, is one
+        of its numbers."""
+        at, most, made, parts = 0, 1, [], []
         listed = {place: item for place, item, *_ in lists(fields)}
         for place, (word, name) in enumerate(fields):
             name, number = re.match(r'(\w+)(?:\[(\d+)\])?', name).groups()
@@ -69,14 +73,15 @@ class Records:
             if place in listed or place - 1 in listed:
                 at += 8
                 continue
-            _, size, alignment, inner = self.all[self.record(word)]
+            _, size, alignment, inner, _ = self.all[self.record(word)]
             at += -at % alignment
             most = max(most, alignment)
             for i in range(int(number or 1)):
                 part = f'{name}[{i}]' if number else name
                 made += [(f'{part}.{field}'.rstrip('.'), at + start, *rest) for field, start, *rest in inner]
+                parts += [(at, self.record(word))] if len(inner) > 1 else []
                 at += size
-        return at + -at % most, most, made
+        return at + -at % most, most, made, parts
 
 
 def passed(records, kind, field, word, is_list):
@@ -116,13 +121,32 @@ def table(homes):
                     f'c: |a| unsafe {{ {symbol}({", ".join(given)}) }}, '
                     f'rust: |a| unsafe {{ crate::exports::{homes[symbol]}::{symbol}({", ".join(taken)}) }} }},')
     shown, field = [], 'Field {{ name: "{}", at: {}, size: {}, item: {}, changed: {} }}'
-    for name, size, _, fields in records.all:
-        parts = ', '.join(field.format(*numbers, str(changed).lower()) for *numbers, changed in fields)
-        shown.append(f'    Record {{ name: "{name}", size: {size}, fields: &[{parts}] }},')
+    for name, size, _, fields, parts in records.all:
+        numbers = ', '.join(field.format(*numbers, str(changed).lower()) for *numbers, changed in fields)
+        parts = ', '.join(map(str, parts))
+        shown.append(f'    Record {{ name: "{name}", size: {size}, fields: &[{numbers}], parts: &[{parts}] }},')
     return '\n'.join(['//! Made by calls.py of include/zacpi.h.',
                       'use crate::words::{Call, Field, Kind::*, Record, at, at_mut, letters, list, list_mut};',
                       'pub static RECORDS: &[Record] = &[', *shown, '];', 'unsafe extern "C" {', *declared, '}',
                       'pub static CALLS: &[Call] = &[', *rows, '];', ''])
+
+
+def calls_by_number():
+    """calls.c. A record that is passed is one of four bytes."""
+    made = ['/* Made by calls.py of include/zacpi.h. */', '#include "zacpi.h"', 'struct word { uint32_t number; };',
+            'uint32_t make_call(uint64_t index, const uint64_t *words);',
+            'uint32_t make_call(uint64_t index, const uint64_t *words) {', '    switch (index) {']
+    for number, (name, fields) in enumerate(calls.items()):
+        given = []
+        for place, (kind, _) in enumerate(fields):
+            word = f'words[{place}]'
+            if kind.startswith('struct') and '*' not in kind:
+                given.append(f'*(const {kind} *)&(const struct word){{(uint32_t){word}}}')
+            else:
+                given.append(f'(void *)(uintptr_t){word}' if '*' in kind else word)
+        symbol = name.replace('zacpi_', f'zacpi_{abi}_', 1)
+        made.append(f'    case {number}: return {symbol}({", ".join(given)});')
+    return '\n'.join([*made, '    }', '    return UINT32_MAX;', '}', ''])
 
 
 def main():
@@ -134,6 +158,7 @@ def main():
     homes = {name: path.stem for path in EXPORTS.glob('*.rt')
              for name in re.findall(r'fn (zacpi_\w+)', path.read_text())}
     (folder / 'src/calls.rs').write_text(table(homes))
+    (folder / 'calls.c').write_text(calls_by_number())
 
 
 main()

@@ -1,5 +1,6 @@
 //! Changes of tables.
 
+use crate::aml::{made_aml, terms};
 use crate::entries::{entries, has_entries, made_entry, value};
 use crate::memory::HEADER;
 use crate::random::Random;
@@ -111,55 +112,14 @@ fn change_entry(table: &mut Vec<u8>, name: &[u8; 4], found: &[(usize, usize)], r
     }
 }
 
-/// Puts the package of a sleep state somewhere, or in the place of one.
+/// Puts the package of a sleep state somewhere, or in the place of one; or terms before what is there.
 fn put_aml(table: &mut Vec<u8>, random: &mut Random) {
+    if random.one_in(3) {
+        return splice(table, HEADER, 0, terms(random));
+    }
     let any = HEADER + random.index(table.len() - HEADER + 1);
     let made = made_aml(random);
     let there = table.windows(2).position(|two| two == b"_S").filter(|_| random.one_in(2));
     let gone = if random.one_in(2) { made.len() } else { 0 };
     splice(table, there.map_or(any, |at| at.max(1) - 1), gone, made);
-}
-
-/// An element of a package, or what may be there.
-fn element(random: &mut Random) -> Vec<u8> {
-    let (small, high) = (random.below(9) as u8, random.below(2) as u8);
-    match random.below(14) {
-        0..4 => vec![0x0a, small],
-        4 => vec![0],
-        5 => vec![1],
-        6 => vec![0xff],
-        7 => vec![0x0b, small, high],
-        8 => vec![0x0c, small, 0, high, 0],
-        9 => vec![0x0e, small, 0, 0, 0, 0, high, 0, 0],
-        10 => b"_ABC".to_vec(),
-        11 => b"\\_X_X".to_vec(),
-        12 => vec![0x11, 5, 0x0a, 2, 1, 2],
-        _ => vec![0x0d, b'a', 0],
-    }
-}
-
-/// A package for a sleep state, or what may be there.
-fn made_aml(random: &mut Random) -> Vec<u8> {
-    let count = random.below(5) as u8;
-    let inside: Vec<u8> = (0..random.below(5)).flat_map(|_| element(random)).collect();
-    let op = random.of(&[0x12, 0x12, 0x12, 0x12, 0x13, 0x11, 0x0a]);
-    let mut made = Vec::new();
-    if !random.one_in(6) {
-        made.push(random.of(&[8, 8, 8, 8, 8, 6, 0x14]));
-    }
-    match random.below(8) {
-        0 => made.push(b'\\'),
-        1 => made.push(b'^'),
-        _ => {}
-    }
-    made.extend([b'_', b'S', b'0' + random.below(7) as u8, b'_', op]);
-    let length = inside.len() + 2;
-    if random.one_in(4) {
-        made.extend([0x40 | (length + 1) as u8 & 15, ((length + 1) >> 4) as u8]);
-    } else {
-        made.push((length as u64 + if random.one_in(10) { random.below(4) } else { 0 }) as u8);
-    }
-    made.push(count);
-    made.extend(inside);
-    made
 }

@@ -93,9 +93,10 @@ pub fn made_entry(name: &[u8], random: &mut Random) -> Vec<u8> {
     let Some((_, types)) = KINDS.iter().find(|kind| &kind.0[..] == name) else { return Vec::new() };
     let Some(shape) = shape(name) else { return Vec::new() };
     let (kind, mut length) = random.of(types);
-    match random.below(16) {
+    match random.below(12) {
         0 => length = (length as u64 + random.below(5)).saturating_sub(2) as u16,
         1 => length = 2 + random.below(14) as u16,
+        2 | 3 => length = 2 + random.below(length as u64 + 4) as u16, // fields are cut at each place
         _ => {}
     }
     let mut entry = vec![0; length as usize];
@@ -136,12 +137,14 @@ fn make_scopes(entry: &mut [u8], kind: u16, random: &mut Random) {
 fn make_devices(entry: &mut [u8], first: usize, random: &mut Random) {
     let mut from = first;
     while from + 4 <= entry.len() {
-        let kind = random.of(&[0u8, 1, 2, 3, 4, 66, 67, 70, 71, 72, 240, 1, 2]);
+        let kind = random.of(&[0u8, 1, 2, 3, 4, 66, 67, 70, 71, 72, 240, 1, 2, 129, 193]);
         entry[from] = kind;
         put(entry, from + 1, 2, random.below(40));
         let size = match kind {
             0..=63 => 4,
             64..=127 => 8,
+            128..=191 => 16,
+            192..=239 => 32,
             _ => 22,
         };
         if kind == 240 && from + 22 <= entry.len() {

@@ -75,7 +75,7 @@ impl Layout {
             8..12 => 2,
             12 => 1,
             13 if random.one_in(3) => 4,
-            14 if random.one_in(5) => 3,
+            14 if random.one_in(4) => 3,
             13 | 14 => 0,
             _ => random.of(&[0, 1, 2, 1, 5]),
         };
@@ -229,7 +229,12 @@ impl Layout {
         let word = if random.one_in(10) { random.next() & 0xffff } else { ebda >> 4 };
         let mut low = vec![0; 0x20];
         put(&mut low, 0xe, 2, word);
-        self.chunks.push((0x400, if random.one_in(8) { vec![0; 0xf] } else { low }));
+        match random.below(16) {
+            0 => {}
+            1 | 2 => self.chunks.push((0x400, vec![0; 0xf])),
+            3 => self.chunks.push((0x40e, vec![word as u8, (word >> 8) as u8])),
+            _ => self.chunks.push((0x400, low)),
+        }
         let at = 16 * random.index(0x3c) + if random.one_in(10) { 4 } else { 0 };
         let mut area = |length: usize, has_rsdp: bool| {
             let mut area = vec![0; length];
@@ -246,7 +251,7 @@ impl Layout {
         }
         if !in_ebda || self.start == 3 {
             let last = area(0x430, !in_ebda);
-            let all = self.start == 3 && self.random.one_in(8);
+            let all = self.random.one_in(if self.start == 3 { 3 } else { 24 });
             let from = if all { 0xe0000 } else { self.random.of(&[0xe0000, 0xe8000, 0xffc00]) };
             let length = if all { 0x20000 } else { 0x400 + self.random.index(64) };
             self.chunks.push((from, [last, vec![0; 0x20000]].concat()[..length].to_vec()));

@@ -1,13 +1,17 @@
 //! twin: judges dist/zacpi.c by what the same sources become as Rust, and the other way round.
 //!
-//!     twin run CORPUS CASES SEED             the cases of a corpus, and so many made of them; status 1 at a difference
+//!     twin run CORPUS CASES SEED [CHILD]     the cases of a corpus, and so many made of them; status 1 at a difference
+//!     twin judge CORPUS CASES SEED [CHILD]   the same, and no least case is looked for
 //!     twin grow CORPUS CASES SEED IMAGE..    makes so many, and keeps those that reach more of the C
 //!     twin keep CORPUS                       leaves the cases that are needed to reach as much
 //!
 //! The last two need an object of the C with counters (clang's -fsanitize-coverage=inline-8bit-counters). A difference
-//! is printed, and CORPUS.differs has the case, without what it can do without.
+//! is printed, and CORPUS.differs has the case, without what it can do without. CHILD is a program of child.c, whose
+//! calls are compared too, but where a region of the case has more than 4 GiB.
 
+mod aml;
 mod calls;
+mod child;
 mod corpus;
 mod damage;
 mod entries;
@@ -20,6 +24,7 @@ mod twin;
 mod values;
 mod words;
 
+use child::Child;
 use corpus::{Case, Corpus};
 use judge::Judge;
 use random::Random;
@@ -75,13 +80,17 @@ fn differs(judge: &mut Judge, path: &str, case: &Case, number: usize, said: &str
     Ok(ExitCode::FAILURE)
 }
 
-fn run(path: &str, more: usize, mut random: Random) -> io::Result<ExitCode> {
-    let (corpus, mut judge) = (Corpus::load(path)?, Judge::new());
+fn run(path: &str, more: usize, mut random: Random, is_shrunk: bool, child: Option<Child>) -> io::Result<ExitCode> {
+    let (corpus, mut judge) = (Corpus::load(path)?, Judge::new(child));
     let old = corpus.cases.len();
     for i in 0..old + more {
         let case = corpus.cases.get(i).cloned().unwrap_or_else(|| corpus.change(&mut random));
         if let Err(said) = judge.judge(&case) {
-            return differs(&mut judge, path, &case, i, &said);
+            if is_shrunk {
+                return differs(&mut judge, path, &case, i, &said);
+            }
+            println!("DIFFERS: {said} (case {i})");
+            return Ok(ExitCode::FAILURE);
         }
     }
     println!("{old} cases and {more} made of them, {} calls", judge.twin.calls_made);
@@ -97,7 +106,7 @@ fn grow(path: &str, more: usize, mut random: Random, images: &[String]) -> io::R
     for image in images {
         corpus.take_pool(&std::fs::read(image)?, 24);
     }
-    let (mut judge, mut reached) = (Judge::new(), Reached { seen: vec![0; counters().len()], count: 0 });
+    let (mut judge, mut reached) = (Judge::new(None), Reached { seen: vec![0; counters().len()], count: 0 });
     for i in 0..old.cases.len() + more {
         let case = old.cases.get(i).cloned().unwrap_or_else(|| corpus.change(&mut random));
         if let Err(said) = judge.judge(&case) {
@@ -122,7 +131,7 @@ fn grow(path: &str, more: usize, mut random: Random, images: &[String]) -> io::R
 /// The least cases first.
 fn keep(path: &str) -> io::Result<ExitCode> {
     let mut corpus = Corpus::load(path)?;
-    let (mut judge, mut reached) = (Judge::new(), Reached { seen: vec![0; counters().len()], count: 0 });
+    let (mut judge, mut reached) = (Judge::new(None), Reached { seen: vec![0; counters().len()], count: 0 });
     corpus.cases.sort_by_key(Case::size);
     corpus.cases.retain(|case| judge.judge(case).is_ok() && reached.take().0);
     println!("{} kept, {} of {} places", corpus.cases.len(), reached.count, reached.seen.len());
@@ -135,11 +144,14 @@ fn main() -> io::Result<ExitCode> {
     let number = |i: usize| words.get(i).and_then(|word| word.parse::<u64>().ok()).unwrap_or(0);
     let (more, random) = (number(2) as usize, Random::new(number(3)));
     match &words[..] {
-        [what, path, _, _] if what == "run" => run(path, more, random),
+        [what, path, _, _, child @ ..] if what == "run" || what == "judge" => {
+            let child = child.first().map(|program| Child::start(program)).transpose()?;
+            run(path, more, random, what == "run", child)
+        }
         [what, path, _, _, images @ ..] if what == "grow" => grow(path, more, random, images),
         [what, path] if what == "keep" => keep(path),
         _ => {
-            eprintln!("twin run|grow CORPUS CASES SEED, or keep CORPUS");
+            eprintln!("twin run|judge|grow CORPUS CASES SEED, or keep CORPUS");
             Ok(ExitCode::from(2))
         }
     }

@@ -1,12 +1,14 @@
-//! Each call of the C library and the function of Rust that has the same words, from the same inputs. The inputs are
-//! made once, in memory that both read; the outputs twice, painted. The two may differ in the padding of records that
-//! were written, and in nothing else.
+//! Each call of the C library and the function of Rust that has the same words, from the same inputs, and if there is
+//! one of the library in another process. The inputs are made once, in memory that all read; the outputs for each,
+//! painted. They may differ in the padding of records that were written, and in nothing else.
 
+use crate::child::Child;
 use crate::random::Random;
 use crate::values::{Arena, CAPACITY, Chance, Facts, Inputs};
 use crate::words::{Call, Kind, Record, Words, number, put};
 
 const GAP: usize = 32; // between outputs
+pub const SIDES: [&str; 4] = ["C", "Rust", "the other process", "none of them"];
 
 /// What may be written at a place of the outputs: `capacity` records, as many as the number at `count` if there is one.
 struct Output {
@@ -48,7 +50,8 @@ impl Passed {
 
 pub struct Twin {
     inputs: Inputs,
-    outs: [Arena; 2],
+    outs: Vec<Arena>, // by side
+    child: Option<Child>,
     kept: Vec<u8>,
     records: &'static [Record],
     top: usize, // of the outputs
@@ -58,10 +61,11 @@ pub struct Twin {
 }
 
 impl Twin {
-    pub fn new(records: &'static [Record], calls: usize) -> Twin {
+    pub fn new(records: &'static [Record], calls: usize, child: Option<Child>) -> Twin {
         Twin {
             inputs: Inputs::new(records),
-            outs: [Arena::new(), Arena::new()],
+            outs: (0..if child.is_some() { 3 } else { 2 }).map(|_| Arena::new()).collect(),
+            child,
             kept: vec![0; CAPACITY],
             records,
             top: 0,
@@ -99,11 +103,12 @@ impl Twin {
             chance.nice = chance.random.below(4);
             let chosen = chosen_capacity(&mut chance.random);
             let passed = self.pass(call, &mut chance, fixed.unwrap_or(chosen), fixed.is_some());
-            let status = self.both(call, &passed, says)?;
+            let status = self.all(index, call, &passed, facts.is_huge, says)?;
             if status != 0 {
                 return Ok(None);
             }
             self.answered[index] += (round == 0) as u64;
+            self.keep_read();
             // again, with a capacity about what there is
             let Some(count) = self.outputs.iter().find_map(|output| output.count) else { return Ok(None) };
             let count = number(&self.outs[1].bytes()[count..count + 8]) as usize;
@@ -114,6 +119,23 @@ impl Twin {
             fixed = Some((count + chance.random.index(3)).saturating_sub(1));
         }
         Ok(None)
+    }
+
+    /// Before the calls of a case.
+    pub fn begin(&mut self) {
+        self.inputs.forget();
+    }
+
+    /// Keeps the records that a call has written.
+    fn keep_read(&mut self) {
+        for output in &self.outputs {
+            let size = self.records[output.record].size;
+            let bytes = self.outs[1].bytes();
+            let count = output.count.map_or(output.capacity, |at| number(&bytes[at..at + 8]) as usize);
+            for i in 0..count.min(output.capacity) {
+                self.inputs.keep_read(output.record, &bytes[output.at + i * size..][..size]);
+            }
+        }
     }
 
     fn bytes_written(&mut self, passed: &Passed, count: usize) -> Option<Vec<u8>> {
@@ -171,9 +193,9 @@ impl Twin {
         if self.records[record].size == 1 {
             passed.bytes_out = true;
             let few = chance.random.index(130);
-            let chosen = match chance.random.below(64) {
+            let chosen = match chance.random.below(40) {
                 0 => 70_000,
-                1..17 => few,
+                1..11 => few,
                 _ => 4096,
             };
             if !is_fixed {
@@ -232,37 +254,52 @@ impl Twin {
         }
     }
 
-    /// Calls both, and compares what they leave. Returns the status.
-    fn both(&mut self, call: &Call, passed: &Passed, says: &dyn Fn(usize)) -> Result<u32, String> {
+    /// Makes the call of each, and compares what they leave with what C does. Returns the status.
+    fn all(
+        &mut self,
+        index: usize,
+        call: &Call,
+        passed: &Passed,
+        is_huge: bool,
+        says: &dyn Fn(usize),
+    ) -> Result<u32, String> {
         let top = self.inputs.top;
         self.kept[..top].copy_from_slice(self.inputs.bytes(0, top));
-        let mut statuses = [0; 2];
-        for (side, function) in [call.c, call.rust].into_iter().enumerate() {
+        let mut statuses = Vec::new();
+        for side in 0..if is_huge { 2 } else { self.outs.len() } {
             let mut words = passed.words;
             let outs = words.iter_mut().zip(&passed.is_out).filter(|(_, is_out)| **is_out);
             outs.for_each(|(word, _)| *word += self.outs[side].start());
             says(side);
-            statuses[side] = function(&words);
+            statuses.push(match (side, &mut self.child) {
+                (0, _) => (call.c)(&words),
+                (2, Some(child)) => child.call(index, &words).unwrap_or_else(|| panic!("{} ends it", call.name)),
+                _ => (call.rust)(&words),
+            });
             if self.kept[..top] != *self.inputs.bytes(0, top) {
-                return Err(format!("{} changes its inputs, side {side}", call.name));
+                return Err(format!("{} changes its inputs in {}", call.name, SIDES[side]));
             }
         }
-        says(2);
+        says(3);
         self.calls_made += 1;
-        if statuses[0] != statuses[1] {
-            return Err(format!("{} returns {} in C, {} in Rust", call.name, statuses[0], statuses[1]));
-        }
-        let [a, b] = &mut self.outs;
-        if a.bytes()[..self.top] != b.bytes()[..self.top] {
-            self.compare(call, statuses[0], &passed.slots)?;
+        for side in 1..statuses.len() {
+            let (status, other) = (statuses[0], statuses[side]);
+            if status != other {
+                return Err(format!("{} returns {status} in C, {other} in {}", call.name, SIDES[side]));
+            }
+            let (first, others) = self.outs.split_at_mut(1);
+            if first[0].bytes()[..self.top] != others[side - 1].bytes()[..self.top] {
+                self.compare(call, status, &passed.slots, side)?;
+            }
         }
         Ok(statuses[0])
     }
 
     /// Compares field by field what was written, and byte by byte what wasn't.
-    fn compare(&mut self, call: &Call, status: u32, slots: &[Slot]) -> Result<(), String> {
-        let starts = [self.outs[0].start() as u64, self.outs[1].start() as u64];
-        let [a, b] = &mut self.outs;
+    fn compare(&mut self, call: &Call, status: u32, slots: &[Slot], side: usize) -> Result<(), String> {
+        let starts = [0, side].map(|side| self.outs[side].start() as u64);
+        let (first, others) = self.outs.split_at_mut(1);
+        let (a, b) = (&mut first[0], &mut others[side - 1]);
         let (a, b) = (a.bytes(), b.bytes());
         let outside = || Err(format!("{} ({status}) writes outside its outputs", call.name));
         let mut from = 0;
@@ -286,7 +323,7 @@ impl Twin {
                     return Err(format!("{} ({status}) writes {} {i}, beyond its count", call.name, record.name));
                 }
                 if let Some(text) = differs(record, one, other, starts) {
-                    return Err(format!("{} ({status}): item {i}, {text}", call.name));
+                    return Err(format!("{} ({status}): item {i}, {text} in {}", call.name, SIDES[side]));
                 }
             }
             from = output.at + output.capacity * record.size;
@@ -310,7 +347,7 @@ fn differs(record: &Record, one: &[u8], other: &[u8], starts: [u64; 2]) -> Optio
         let (x, y) = (number(&one[field.at..][..field.size]), number(&other[field.at..][..field.size]));
         let is_place = field.item >= 0 && field.changed;
         if x != y && !(is_place && x.wrapping_sub(starts[0]) == y.wrapping_sub(starts[1])) {
-            return Some(format!("{}.{} is {x:#x} in C, {y:#x} in Rust", record.name, field.name));
+            return Some(format!("{}.{} is {x:#x} in C, {y:#x}", record.name, field.name));
         }
     }
     None

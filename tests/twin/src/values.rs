@@ -1,25 +1,26 @@
 //! What calls are passed: numbers, records and lists, in memory that both sides read.
 
+use crate::memory::shared;
 use crate::random::Random;
-use crate::words::{Record, number, put};
+use crate::words::{Field, Record, number, put};
 
 /// How much memory the inputs have, and the outputs of each side: a table that is written may have more than 64 KiB.
 pub const CAPACITY: usize = 1 << 18;
 
 /// Memory that is aligned for every record.
-pub struct Arena(Vec<u128>);
+pub struct Arena(*mut u8);
 
 impl Arena {
     pub fn new() -> Arena {
-        Arena(vec![0; CAPACITY / 16])
+        Arena(shared(CAPACITY))
     }
 
     pub fn start(&self) -> usize {
-        self.0.as_ptr() as usize
+        self.0 as usize
     }
 
     pub fn bytes(&mut self) -> &mut [u8] {
-        unsafe { std::slice::from_raw_parts_mut(self.0.as_mut_ptr() as *mut u8, CAPACITY) }
+        unsafe { std::slice::from_raw_parts_mut(self.0, CAPACITY) }
     }
 }
 
@@ -29,6 +30,7 @@ pub struct Facts<'a> {
     pub rsdp: &'a [u8],
     pub tables: &'a [Vec<u8>],
     pub addresses: &'a [u64],
+    pub is_huge: bool, // a region isn't in the memory that another process shares
 }
 
 /// What chooses values. `nice` is 0 for any numbers, 1 for mostly small ones, 2 and 3 for nearly none but what records
@@ -123,16 +125,43 @@ impl Chance<'_> {
 const WALKS: [[u8; 5]; 6] =
     [[44, 0, 1, 1, 1], [48, 0, 1, 1, 1], [48, 0, 2, 2, 2], [48, 0, 1, 2, 2], [96, 0, 1, 1, 2], [36, 0, 2, 2, 4]];
 
+const MOST_READ: usize = 6; // of a record
+
 /// The memory of what is passed, of which `top` bytes are taken.
 pub struct Inputs {
     pub arena: Arena,
     pub top: usize,
     pub records: &'static [Record],
+    /// What calls of the case have written so far, by record: it may be passed to others.
+    read: Vec<Vec<Vec<u8>>>,
 }
 
 impl Inputs {
     pub fn new(records: &'static [Record]) -> Inputs {
-        Inputs { arena: Arena::new(), top: 0, records }
+        Inputs { arena: Arena::new(), top: 0, records, read: vec![Vec::new(); records.len()] }
+    }
+
+    pub fn forget(&mut self) {
+        self.read.iter_mut().for_each(Vec::clear);
+    }
+
+    pub fn keep_read(&mut self, record: usize, bytes: &[u8]) {
+        if self.records[record].fields.len() > 1 && self.read[record].len() < MOST_READ {
+            self.read[record].push(bytes.to_vec());
+        }
+    }
+
+    /// Puts over a record, and what it consists of, what was read, if something was.
+    fn put_read(&mut self, at: usize, record: usize, chance: &mut Chance) {
+        for &(place, part) in self.records[record].parts {
+            self.put_read(at + place, part, chance);
+        }
+        let read = &self.read[record];
+        if read.is_empty() || chance.random.one_in(5) {
+            return;
+        }
+        let bytes = read[chance.random.index(read.len())].clone();
+        self.bytes(at, bytes.len()).copy_from_slice(&bytes);
     }
 
     pub fn bytes(&mut self, at: usize, size: usize) -> &mut [u8] {
@@ -153,29 +182,46 @@ impl Inputs {
     }
 
     /// Fills a record. Lists of it are made too.
-    pub fn fill(&mut self, at: usize, record: usize, chance: &mut Chance, depth: u32) {
-        let record = &self.records[record];
+    pub fn fill(&mut self, at: usize, place: usize, chance: &mut Chance, depth: u32) {
+        let record = &self.records[place];
         if record.name == "zacpi_walk" && !chance.random.one_in(4) {
             let [first, type_at, type_width, length_at, length_width] = chance.random.of(&WALKS);
             let walk = [first, 0, 0, 0, type_at, type_width, length_at, length_width];
             self.bytes(at, 8).copy_from_slice(&walk);
             return;
         }
-        for field in record.fields {
-            if field.item >= 0 {
-                let (place, length) = self.list(field.item as usize, chance, depth);
-                put(self.bytes(at + field.at, 16), 0, 8, place as u64);
-                put(self.bytes(at + field.at, 16), 8, 8, length as u64);
-                continue;
-            }
-            let mut number = chance.number(field.size);
-            if field.name.ends_with("kind") && chance.nice != 0 {
-                number = chance.random.below(2);
-            } else if field.name.ends_with("space") && chance.random.one_in(2) {
-                number = chance.random.of(&[0, 1, 2, 3, 4, 5, 6, 7, 8, 9, 10, 11, 127, 192, 255]);
-            }
-            put(self.bytes(at + field.at, field.size), 0, field.size, number);
+        for field in record.fields.iter().filter(|field| field.item < 0) {
+            self.put_number(at, field, chance);
         }
+        if chance.nice >= 2 {
+            self.put_read(at, place, chance);
+            if chance.random.one_in(2) {
+                let field = &record.fields[chance.random.index(record.fields.len())];
+                self.put_number(at, field, chance);
+            }
+        }
+        for field in record.fields.iter().filter(|field| field.item >= 0) {
+            let (place, length) = self.list(field.item as usize, chance, depth);
+            put(self.bytes(at + field.at, 16), 0, 8, place as u64);
+            put(self.bytes(at + field.at, 16), 8, 8, length as u64);
+        }
+    }
+
+    /// A number that a field of its name may have.
+    fn put_number(&mut self, at: usize, field: &Field, chance: &mut Chance) {
+        let mut number = chance.number(field.size);
+        let random = &mut chance.random;
+        let is_code = field.name.ends_with("polarity") || field.name.ends_with("trigger");
+        if field.name.ends_with("kind") && chance.nice != 0 {
+            number = random.below(2);
+        } else if field.name.ends_with("space") && random.one_in(2) {
+            number = random.of(&[0, 1, 2, 3, 4, 5, 6, 7, 8, 9, 10, 11, 127, 192, 255]);
+        } else if is_code && chance.nice != 0 {
+            number = random.of(&[0, 1, 1, 1, 1, 2, 3, 3, 3]);
+        } else if field.size == 8 && random.one_in(16) {
+            number = u64::MAX;
+        }
+        put(self.bytes(at + field.at, field.size), 0, field.size, number);
     }
 
     /// A list: its place and its length.
@@ -189,7 +235,7 @@ impl Inputs {
             let n = chance.random.below(8);
             length = match n {
                 0..6 => (n * n) as usize,
-                _ if chance.random.one_in(40) => 65_000 + chance.random.index(1000),
+                _ if chance.random.one_in(12) => 65_400 + chance.random.index(200), // about 64 KiB
                 _ => chance.random.index(200),
             };
         }

@@ -14,6 +14,8 @@ pub struct Record {
     pub name: &'static str,
     pub size: usize,
     pub fields: &'static [Field],
+    /// Where records are in it, and which.
+    pub parts: &'static [(usize, usize)],
 }
 
 #[derive(Clone, Copy, PartialEq)]
