@@ -418,8 +418,8 @@ static void check_written(const struct written_row *row, size_t room, zacpi_stat
            (int)(row - written), room, got);
 }
 
-/* With no room, one byte less than a table needs, just enough, and room to spare; then with each name made of bytes
- * that aren't UTF-8. */
+/* With each room that is less than a table needs, since each part of it has an error of its own, just enough, and room
+ * to spare; then with each name made of bytes that aren't UTF-8. */
 static void check_all_written(void) {
     static const struct zacpi_table_ids *const not_texts[] = {&no_oem, &no_table_id, &no_creator};
     size_t i, k;
@@ -427,9 +427,10 @@ static void check_all_written(void) {
     lay_arm_machine();
     for (i = 0; i < sizeof written / sizeof *written; i++) {
         const struct written_row *row = written + i;
-        const size_t rooms[] = {0, row->length ? row->length - 1 : 35, row->length, row->length + 40};
-        for (k = 0; k < 4; k++)
-            check_written(row, rooms[k], row->status ? row->status : k < 2 ? (zacpi_status)ZACPI_NO_ROOM : ZACPI_OK);
+        const size_t most = row->status ? 35 : row->length;
+        for (k = 0; k <= most; k++)
+            check_written(row, k, row->status ? row->status : k < most ? (zacpi_status)ZACPI_NO_ROOM : ZACPI_OK);
+        check_written(row, most + 40, row->status);
         for (k = 0; k < 3; k++) {
             ids = not_texts[k];
             check_written(row, row->length, row->badly_named);
