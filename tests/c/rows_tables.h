@@ -6,7 +6,7 @@
 #include "zacpi.h"
 
 #define BASE 0x100000u
-#define SIZE 0x1c000u
+#define SIZE 0x20000u
 #define AT(n) (BASE + 0x200u * (n))       /* where table N lies */
 #define TAIL (BASE + SIZE - 36u)          /* the last 36 bytes: a header whose table isn't lent as a whole */
 #define CUT(n) (0x180000u + 0x1000u * (n)) /* three regions with the first bytes of a table each */
@@ -40,7 +40,8 @@ enum { EMPTY, ARM, PC, ODD, HOLES, SUM, DESKTOP, MOBILE, WORKSTATION, SERVER, SO
        UNITS_BETWEEN, UNITS_FAULTS, UNITS_LATER, RISCV, RISCV_CUT, RISCV_SHORT, EARLY, LATE, PAST, ONE_LEFT, UNITS_4,
        FLAWED,
        LED_BY_SUMS, LED_BY_IDS, ROOT_OEM_ID, ROOT_LONG, OVERRIDES, MEMBERS,
-       ALL_KINDS, ROOT_TABLE_ID, ROOT_35, ROOT_X_TABLE_ID, /* root tables, in the order of `tables` */
+       ALL_KINDS, EVERY, APICS, ENDS_0, ENDS_5, ENDS_LATER_0, ENDS_LATER_5, NO_GICD_5, NO_GICD_LATER_0, NO_GICD_LATER_5,
+       ROOT_TABLE_ID, ROOT_35, ROOT_X_TABLE_ID, /* root tables, in the order of `tables` */
        RSDP_0, RSDP_2, RSDP_40, RSDP_MIXED, RSDP_LONG, RSDP_LOST, RSDP_CUT, RSDP_SHORT, RSDP_TO_SUM, RSDP_OEM_ID,
        RSDP_NONE, /* RSDPs, and the last one is none */
        MADT_GIC, GTDT, SRAT, SLIT, MCFG, FADT, MADT_PC, HPET_SHORT, HPET, MADT_CUT, GTDT_CUT, SRAT_CUT, SLIT_ODD,
@@ -58,7 +59,8 @@ enum { EMPTY, ARM, PC, ODD, HOLES, SUM, DESKTOP, MOBILE, WORKSTATION, SERVER, SO
        IVRS_BETWEEN, IVRS_FAULTS, MADT_RISCV, MADT_RISCV_CUT, MADT_RISCV_SHORT,
        GTDT_EARLY, GTDT_LATE, GTDT_PAST, MADT_BOTH, MADT_OEM_ID, MADT_TABLE_ID, MADT_SUM,
        MADT_VALID, MADT_LOST, FADT_SUM, FADT_OEM_ID, DSDT_SUM, DSDT_TABLE_ID, SSDT_SUM, HPET_SUM, MADT_OVERRIDES,
-       SRAT_ALL, DMAR_ALL };
+       SRAT_ALL, DMAR_ALL, MADT_EVERY, MADT_APICS, MADT_ENDS_0, MADT_ENDS_5, MADT_ENDS_LATER_0, MADT_ENDS_LATER_5,
+       MADT_NO_GICD_5, MADT_NO_GICD_LATER_0, MADT_NO_GICD_LATER_5 };
 
 /* Entry[n] of an RSDT, from 36 on (section 5.2.7), and of an XSDT (section 5.2.8). */
 PUTS(no_fields, {36, 0, 0});
@@ -263,6 +265,7 @@ PUTS(slit, {36, 8, 2}, {44, 1, 10}, {45, 1, 20}, {46, 1, 30}, {47, 1, 10});
 PUTS(slit_odd, {36, 8, 3}, {44, 1, 10}, {45, 1, 9}, {46, 1, 8}, {47, 1, 255}); /* of nine it has four */
 
 #include "rows_tables_accept.h"
+#include "rows_tables_every.h"
 #include "rows_tables_faults.h"
 #include "rows_tables_iommu.h"
 #include "rows_tables_kinds.h"
@@ -303,6 +306,10 @@ static const struct table {
     {AT(LED_BY_IDS), "RSDT", 1, 44, led_by_ids}, {AT(ROOT_OEM_ID), "RSDT", 1, 40, root_oem_id},
     {AT(ROOT_LONG), "RSDT", 1, SIZE, root_long}, {AT(OVERRIDES), "RSDT", 1, 40, overrides},
     {AT(MEMBERS), "RSDT", 1, 52, members}, {AT(ALL_KINDS), "RSDT", 1, 44, all_kinds},
+    {AT(EVERY), "RSDT", 1, 44, every}, {AT(APICS), "RSDT", 1, 44, apics}, {AT(ENDS_0), "RSDT", 1, 44, ends_0},
+    {AT(ENDS_5), "RSDT", 1, 44, ends_5}, {AT(ENDS_LATER_0), "RSDT", 1, 44, ends_later_0},
+    {AT(ENDS_LATER_5), "RSDT", 1, 44, ends_later_5}, {AT(NO_GICD_5), "RSDT", 1, 44, no_gicd_5},
+    {AT(NO_GICD_LATER_0), "RSDT", 1, 44, no_gicd_later_0}, {AT(NO_GICD_LATER_5), "RSDT", 1, 44, no_gicd_later_5},
     {AT(ROOT_TABLE_ID), "RSDT", 1, 36, root_table_id}, {AT(ROOT_35), "RSDT", 1, 35, no_fields},
     {AT(ROOT_X_TABLE_ID), "XSDT", 1, 36, root_table_id},
     {AT(MADT_GIC), "APIC", 6, 346, madt_gic}, {AT(GTDT), "GTDT", 3, 260, gtdt}, {AT(SRAT), "SRAT", 3, 274, srat},
@@ -377,6 +384,12 @@ static const struct table {
     {AT(SSDT_SUM), "SSDT", 1, 47, ssdt_sum}, {AT(HPET_SUM), "HPET", 1, 56, hpet_sum},
     {AT(MADT_OVERRIDES), "APIC", 5, 113, madt_overrides},
     {AT(SRAT_ALL), "SRAT", 3, 315, srat_all}, {AT(DMAR_ALL), "DMAR", 1, 263, dmar_all},
+    {AT(MADT_EVERY), "APIC", 6, MADT_EVERY_SIZE, madt_every}, {AT(MADT_APICS), "APIC", 6, MADT_APICS_SIZE, madt_every},
+    {AT(MADT_ENDS_0), "APIC", 6, 88, madt_ends_0}, {AT(MADT_ENDS_5), "APIC", 6, 88, madt_ends_5},
+    {AT(MADT_ENDS_LATER_0), "APIC", 6, 90, madt_ends_later_0},
+    {AT(MADT_ENDS_LATER_5), "APIC", 6, 90, madt_ends_later_5}, {AT(MADT_NO_GICD_5), "APIC", 6, 68, madt_no_gicd_5},
+    {AT(MADT_NO_GICD_LATER_0), "APIC", 6, 70, madt_no_gicd_later_0},
+    {AT(MADT_NO_GICD_LATER_5), "APIC", 6, 70, madt_no_gicd_later_5},
     {LAST_MADT, "APIC", 5, LAST_MADT_SIZE, last_madt}, {LAST_IVRS, "IVRS", 2, LAST_IVRS_SIZE, last_ivrs},
     {BIOS + 0x10000, "RSDT", 1, 36, no_fields}};
 

@@ -1,0 +1,71 @@
+/* MADTs with an entry of each Type between entries of Types that no call knows, for rows_every.h, and MADTs that end in
+ * an entry whose Length can't be. */
+#ifndef ROWS_TABLES_EVERY_H
+#define ROWS_TABLES_EVERY_H
+
+PUTS(every, {36, 4, AT(FADT)}, {40, 4, AT(MADT_EVERY)});
+PUTS(apics, {36, 4, AT(FADT)}, {40, 4, AT(MADT_APICS)});
+PUTS(ends_0, {36, 4, AT(FADT)}, {40, 4, AT(MADT_ENDS_0)});
+PUTS(ends_5, {36, 4, AT(FADT)}, {40, 4, AT(MADT_ENDS_5)});
+PUTS(ends_later_0, {36, 4, AT(FADT)}, {40, 4, AT(MADT_ENDS_LATER_0)});
+PUTS(ends_later_5, {36, 4, AT(FADT)}, {40, 4, AT(MADT_ENDS_LATER_5)});
+PUTS(no_gicd_5, {36, 4, AT(FADT)}, {40, 4, AT(MADT_NO_GICD_5)});
+PUTS(no_gicd_later_0, {36, 4, AT(FADT)}, {40, 4, AT(MADT_NO_GICD_LATER_0)});
+PUTS(no_gicd_later_5, {36, 4, AT(FADT)}, {40, 4, AT(MADT_NO_GICD_LATER_5)});
+
+#define OTHER(at) {at, 2, HEADER(0x80, 2)} /* of an OEM */
+/* The first 279 bytes have what a PC has, and the entries of a RISC-V machine; SAPICs and a GIC come after them. */
+PUTS(madt_every,
+    {36, 4, 0xfee00000} /* Local Interrupt Controller Address */, {40, 4, 1} /* Flags: PCAT_COMPAT */, OTHER(44),
+    {46, 2, HEADER(0, 8)}, {46 + 2, 1, 1} /* ACPI Processor UID */, {46 + 3, 1, 10} /* APIC ID */,
+    {46 + 4, 4, 1} /* Flags: Enabled */,
+    {54, 2, HEADER(0x18, 20)}, {54 + 2, 1, 9} /* Version */, {54 + 8, 8, 7} /* Hart ID */,
+    {54 + 16, 4, 8} /* ACPI Processor UID */,
+    {74, 2, HEADER(1, 12)}, {74 + 2, 1, 2} /* I/O APIC ID */, {74 + 4, 4, 0xfec00000} /* I/O APIC Address */,
+    {86, 2, HEADER(0x11, 2)},
+    {88, 2, HEADER(2, 10)}, {88 + 3, 1, 9} /* Source */, {88 + 4, 4, 20} /* Global System Interrupt */,
+    {88 + 8, 2, 0xd} /* Flags: active high, level */, {98, 2, HEADER(0x80, 3)},
+    {101, 2, HEADER(3, 8)}, {101 + 2, 2, 5} /* Flags: active high, edge */,
+    {101 + 4, 4, 50} /* Global System Interrupt */, OTHER(109),
+    {111, 2, HEADER(4, 6)}, {111 + 2, 1, 0xff} /* ACPI Processor UID: all */, {111 + 5, 1, 1} /* Local APIC LINT# */,
+    {117, 2, HEADER(0x19, 16)}, {117 + 2, 1, 5} /* Version */, {117 + 8, 2, 63} /* Supervisor Mode Identities */,
+    {133, 2, HEADER(5, 12)}, {133 + 4, 8, 0x1fee00000} /* Local APIC Address */, OTHER(145),
+    {147, 2, HEADER(9, 16)}, {147 + 4, 4, 300} /* X2APIC ID */, {147 + 8, 4, 1} /* Flags: Enabled */,
+    {147 + 12, 4, 301} /* ACPI Processor UID */, OTHER(163),
+    {165, 2, HEADER(0xa, 12)}, {165 + 2, 2, 0xf} /* Flags: active low, level */,
+    {165 + 4, 4, 301} /* ACPI Processor UID; Local x2APIC LINT# 0 */,
+    {177, 2, HEADER(0x1a, 36)}, {177 + 2, 1, 1} /* Version */, {177 + 24, 8, 0xd000000} /* APLIC Address */,
+    {213, 2, HEADER(0x10, 16)}, {213 + 8, 8, 0x27b000000} /* MailBoxAddress */,
+    {229, 2, HEADER(0x1b, 36)}, {229 + 2, 1, 3} /* Version */, {229 + 24, 8, 0xc000000} /* PLIC Address */,
+    {265, 2, HEADER(1, 12)}, {265 + 2, 1, 3} /* I/O APIC ID */, {265 + 4, 4, 0xfec01000} /* I/O APIC Address */,
+    {265 + 8, 4, 24} /* Global System Interrupt Base */, OTHER(277),
+    {279, 2, HEADER(6, 16)}, OTHER(295), {297, 2, HEADER(7, 16)}, OTHER(313), {315, 2, HEADER(8, 16)}, OTHER(331),
+    {333, 2, HEADER(0x0b, 76)}, {333 + 4, 4, 4} /* CPU Interface Number */,
+    {333 + 8, 4, 18} /* ACPI Processor UID */, {333 + 12, 4, 4} /* Flags: VGIC Maintenance interrupt Mode edge */,
+    {333 + 68, 8, 3} /* MPIDR */, OTHER(409),
+    {411, 2, HEADER(0x0c, 24)}, {411 + 4, 4, 7} /* GIC ID */, {411 + 8, 8, 0x2f000000} /* Physical Base Address */,
+    {411 + 16, 4, 5} /* System Vector Base */, {411 + 20, 1, 3} /* GIC version */, OTHER(435),
+    {437, 2, HEADER(0x0d, 24)}, {437 + 4, 4, 8} /* GIC MSI Frame ID */,
+    {437 + 8, 8, 0x12f030000} /* Physical Base Address */, {437 + 16, 4, 1} /* Flags: SPI Count/Base Select */,
+    {437 + 20, 2, 32} /* SPI Count */, {437 + 22, 2, 64} /* SPI Base */, OTHER(461),
+    {463, 2, HEADER(0x0e, 16)}, {463 + 4, 8, 0x12f200000} /* Discovery Range Base Address */,
+    {463 + 12, 4, 0x40000} /* Discovery Range Length */, OTHER(479),
+    {481, 2, HEADER(0x0f, 20)}, {481 + 4, 4, 6} /* GIC ITS ID */,
+    {481 + 8, 8, 0x12f020000} /* Physical Base Address */);
+#define MADT_APICS_SIZE 279u
+#define MADT_EVERY_SIZE 501u
+
+/* A processor and a distributor, and then an I/O APIC with a Length of 0, or of 5 where 12 are the least; also after an
+ * entry of an OEM. */
+#define BEFORE_THE_END \
+    {44, 2, HEADER(0, 8)}, {44 + 2, 1, 1} /* ACPI Processor UID */, {44 + 3, 1, 10} /* APIC ID */, \
+    {44 + 4, 4, 1} /* Flags: Enabled */, {52, 2, HEADER(0x0c, 24)}
+PUTS(madt_ends_0, BEFORE_THE_END, {76, 2, HEADER(1, 0)});
+PUTS(madt_ends_5, BEFORE_THE_END, {76, 2, HEADER(1, 5)});
+PUTS(madt_ends_later_0, BEFORE_THE_END, OTHER(76), {78, 2, HEADER(1, 0)});
+PUTS(madt_ends_later_5, BEFORE_THE_END, OTHER(76), {78, 2, HEADER(1, 5)});
+/* No distributor, since its Length is 5, or after an entry of an OEM 0 or 5, where 24 are the least. */
+PUTS(madt_no_gicd_5, {44, 2, HEADER(0x0c, 5)});
+PUTS(madt_no_gicd_later_0, OTHER(44), {46, 2, HEADER(0x0c, 0)});
+PUTS(madt_no_gicd_later_5, OTHER(44), {46, 2, HEADER(0x0c, 5)});
+#endif
