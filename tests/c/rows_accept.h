@@ -73,6 +73,13 @@ static const struct {
     MISSING(IDS, get_hpet, LED_BY_SUMS, "HPET"), {IDS, NOTHING(list_hpets, LED_BY_SUMS)},
     {SUMS, GOOD(get_hpet, LED_BY_SUMS, NULL, NO, 1, 0xfed40000, 0, 0, 0, 0)},
     {SUMS, GOOD(list_hpets, LED_BY_SUMS, NULL, NO, 1, 0xfed40000, 0, 0, 0, 0)},
+    /* An OEMID that isn't UTF-8, with a bad sum and without. */
+    MISSING(0, get_hpet, HPET_IDS_ONLY, "HPET"), MISSING(SUMS, get_hpet, HPET_IDS_ONLY, "HPET"),
+    {IDS, GOOD(get_hpet, HPET_IDS_ONLY, NULL, NO, 1, 0xfed50000, 0, 0, 0, 0)},
+    {BOTH, GOOD(get_hpet, HPET_IDS_ONLY, NULL, NO, 1, 0xfed60000, 0, 0, 0, 0)},
+    {SUMS, NOTHING(list_hpets, HPET_IDS_ONLY)},
+    {IDS, GOOD(list_hpets, HPET_IDS_ONLY, NULL, NO, 1, 0xfed50000, 0, 0, 0, 0)},
+    {BOTH, GOOD(list_hpets, HPET_IDS_ONLY, NULL, NO, 2, 0xfed60000, 0, 0, 0, 0, 0xfed50000, 0, 0, 0, 0)},
     {0, NOTHING(list_tables, LED_BY_SUMS)},
     {IDS, GOOD(list_tables, LED_BY_SUMS, NULL, NO, 1, AT(MADT_TABLE_ID), 52, LETTERS('A', 'P', 'I', 'C'), 5, 0, 0xff,
                0, 0, 0)},

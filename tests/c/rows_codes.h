@@ -318,6 +318,9 @@ static void check_written_codes(void) {
             shown->at.access_size = codes[k];
             check_written_code(&given.fixed, is_access_size(codes[k]), spot, 3, codes[k]);
             given = before;
+            shown->at.space = 0xc0, shown->at.access_size = codes[k]; /* of an OEM */
+            if (!is_access_size(codes[k])) check_written_code(&given.fixed, 0, spot, 3, codes[k]);
+            given = before;
         }
         for (k = 0; k < sizeof no_presences; k++) {
             *(spot->block ? &block->present : &shown->present) = no_presences[k];

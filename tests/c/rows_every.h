@@ -46,11 +46,11 @@
     REFUSED(get_isa_interrupts, machine, NULL, NO, ZACPI_NO_APICS, NULL)
 
 /* A processor and a distributor, and nothing of what would come after the fault. */
-#define ENDS_EARLY(machine, madt, at) \
+#define ENDS_EARLY(machine, madt, at, type) \
     REFUSED(get_interrupt_model, machine, NULL, NO, ZACPI_MADT_UNEXPECTED_ENTRY, NULL), \
     REFUSED(get_platform, machine, NULL, NO, ZACPI_MADT_UNEXPECTED_ENTRY, NULL), \
     GOOD(list_madt_faults, machine, NULL, NO, 2, FAULT(madt, 52, 0x0c), \
-         AT(madt) + at, ZACPI_MADT_INVALID_ENTRY_LENGTH, 1), \
+         AT(madt) + at, ZACPI_MADT_INVALID_ENTRY_LENGTH, type), \
     GOOD(get_local_apic, machine, NULL, NO, 1, 0, 0), \
     NOTHING(list_io_apics, machine), NOTHING(list_overrides, machine), NOTHING(list_nmi_sources, machine), \
     NOTHING(list_nmi_lines, machine), \
@@ -74,6 +74,40 @@
     REFUSED(get_mailbox_address, machine, NULL, NO, ZACPI_MADT_INVALID_ENTRY_LENGTH, NULL), \
     REFUSED(get_gic_distributor, machine, NULL, NO, ZACPI_MADT_INVALID_ENTRY_LENGTH, NULL), \
     NO_APIC_LISTS(machine), NO_GIC_LISTS(machine)
+
+/* Of a root table whose other pointers lead nowhere. */
+#define OF_ROOT(machine, length) \
+    REFUSED(get_hpet, machine, NULL, NO, ZACPI_TABLE_MISSING, "HPET"), NOTHING(list_hpets, machine), \
+    NOTHING(list_ssdts, machine), \
+    GOOD(find_nth_table, machine, "OEM2", A(0), 1, AT(OEM2_36), 36, LETTERS('O', 'E', 'M', '2'), 1, NO_IDS), \
+    REFUSED(find_nth_table, machine, "OEM1", A(0), ZACPI_TABLE_MISSING, "OEM1"), \
+    GOOD(list_tables, machine, NULL, NO, 2, AT(FADT_DESKTOP), 116, LETTERS('F', 'A', 'C', 'P'), 1, NO_IDS, \
+         AT(OEM2_36), 36, LETTERS('O', 'E', 'M', '2'), 1, NO_IDS), \
+    GOOD(list_ranges, machine, NULL, NO, 3, AT(machine), length, AT(FADT_DESKTOP), 116, AT(OEM2_36), 36), \
+    GOOD(get_interrupt_model, machine, NULL, NO, 1, 0, 0, 0, 0, 0, 0, 0, 0), \
+    REFUSED(get_platform, machine, NULL, NO, ZACPI_NO_APICS, NULL), \
+    REFUSED(get_sci_interrupt, machine, NULL, NO, ZACPI_TABLE_MISSING, "APIC"), \
+    REFUSED(get_sleep_types, machine, NULL, A(5), ZACPI_INVALID_DSDT_ADDRESS, NULL)
+
+/* One unit of each kind, whatever comes around it, and a fault where the table ends. */
+#define OF_UNIT(machine, dmar, ivrs) \
+    GOOD(list_dmar_units, machine, NULL, NO, 1, FIRST_UNIT), \
+    GOOD(list_dmar_scopes, machine, NULL, A(0), 1, 1, 1, 0, 0, 0, 2, 0, NO_HOPS), \
+    REFUSED(list_dmar_scopes, machine, NULL, A(1), ZACPI_NO_IOMMU, NULL), \
+    NOTHING(list_dmar_reserved, machine), NOTHING(list_dmar_regions, machine), NOTHING(list_dmar_root_ports, machine), \
+    NOTHING(list_dmar_affinities, machine), \
+    GOOD(list_dmar_faults, machine, NULL, NO, 1, AT(dmar) + 86, ZACPI_IOMMU_INVALID_STRUCTURE_LENGTH, 0), \
+    GOOD(get_dmar_unit, machine, NULL, A(0, 0, 1, HOP_2_0), 1, FIRST_UNIT), \
+    REFUSED(get_dmar_unit, machine, NULL, A(0, 0, 1, HOP_1_0), ZACPI_IOMMU_INVALID_STRUCTURE_LENGTH, NULL), \
+    REFUSED(get_dmar_io_apic, machine, NULL, A(2), ZACPI_IOMMU_INVALID_STRUCTURE_LENGTH, NULL), \
+    REFUSED(get_dmar_hpet, machine, NULL, A(2), ZACPI_IOMMU_INVALID_STRUCTURE_LENGTH, NULL), \
+    GOOD(get_ivrs_unit, machine, NULL, A(0, 2), 1, BLOCK_10, 2, 0xd7), \
+    REFUSED(get_ivrs_unit, machine, NULL, A(1, 2), ZACPI_IOMMU_INVALID_STRUCTURE_LENGTH, NULL), \
+    GOOD(list_ivrs_units, machine, NULL, NO, 1, BLOCK_10), \
+    GOOD(list_ivrs_entries, machine, NULL, A(0), 1, 1, 0, 0xffff, 0xd7, 0, 0, 0, 0, NO_HID), \
+    REFUSED(list_ivrs_entries, machine, NULL, A(1), ZACPI_NO_IOMMU, NULL), \
+    NOTHING(list_ivrs_memory, machine), NOTHING(list_ivrs_regions, machine), \
+    GOOD(list_ivrs_faults, machine, NULL, NO, 1, AT(ivrs) + 84, ZACPI_IOMMU_INVALID_STRUCTURE_LENGTH, 0)
 
 static const struct row every_rows[] = {
     GOOD(get_interrupt_model, APICS, NULL, NO, 1, 0x1fee00000, 2, 1, 1, 2, 2, 1, 1),
@@ -99,12 +133,65 @@ static const struct row every_rows[] = {
     GOOD(list_gic_translation_services, EVERY, NULL, NO, 1, 0x12f020000, 6),
     GOOD(list_gic_msi_frames, EVERY, NULL, NO, 1, 0x12f030000, 8, 64, 32, 1),
 
-    ENDS_EARLY(ENDS_0, MADT_ENDS_0, 76), ENDS_EARLY(ENDS_5, MADT_ENDS_5, 76),
-    ENDS_EARLY(ENDS_LATER_0, MADT_ENDS_LATER_0, 78), ENDS_EARLY(ENDS_LATER_5, MADT_ENDS_LATER_5, 78),
+    ENDS_EARLY(ENDS_0, MADT_ENDS_0, 76, 1), ENDS_EARLY(ENDS_5, MADT_ENDS_5, 76, 1),
+    ENDS_EARLY(ENDS_LATER_0, MADT_ENDS_LATER_0, 78, 1), ENDS_EARLY(ENDS_LATER_5, MADT_ENDS_LATER_5, 78, 1),
+    ENDS_EARLY(ENDS_OTHER, MADT_ENDS_OTHER, 76, 0x80),
     NOTHING_BEFORE(NO_GICD_5, MADT_NO_GICD_5, 44), NOTHING_BEFORE(NO_GICD_LATER_0, MADT_NO_GICD_LATER_0, 46),
     NOTHING_BEFORE(NO_GICD_LATER_5, MADT_NO_GICD_LATER_5, 46),
 
+    /* Of a GICC of 80 bytes neither what is after SPE overflow Interrupt is read nor what is after the entry. */
+    REFUSED(get_interrupt_model, GICCS, NULL, NO, ZACPI_MADT_UNEXPECTED_ENTRY, NULL),
+    GOOD(list_madt_faults, GICCS, NULL, NO, 2, FAULT(MADT_GICCS, 52, 0x0b), FAULT(MADT_GICCS, 132, 0x0b)),
+    NOTHING(list_io_apics, GICCS), NOTHING(list_overrides, GICCS), NOTHING(list_nmi_sources, GICCS),
+    NOTHING(list_nmi_lines, GICCS), GOOD(list_processors, GICCS, NULL, NO, 1, 1, 10, ZACPI_PROCESSOR_RUNNING, 1, 0, 0),
+    REFUSED(get_mailbox_address, GICCS, NULL, NO, ZACPI_MADT_UNEXPECTED_ENTRY, NULL),
+    GOOD(get_sci_interrupt, GICCS, NULL, NO, 1, 9, ZACPI_POLARITY_LOW, ZACPI_TRIGGER_LEVEL),
+    REFUSED(get_io_apic_pin, GICCS, NULL, A(4), ZACPI_NO_SUCH_IO_APIC, NULL),
+    GOOD(get_isa_interrupts, GICCS, NULL, NO, 16, UNPINNED(0), UNPINNED(1), UNPINNED(2), UNPINNED(3), UNPINNED(4),
+         UNPINNED(5), UNPINNED(6), UNPINNED(7), UNPINNED(8), UNPINNED(9), UNPINNED(10), UNPINNED(11), UNPINNED(12),
+         UNPINNED(13), UNPINNED(14), UNPINNED(15)),
+    REFUSED(get_gic_distributor, GICCS, NULL, NO, ZACPI_NO_GIC, NULL),
+    GOOD(list_gic_cpu_interfaces, GICCS, NULL, NO, 2,
+         0, 0, 0, 0, 0, 0, 1, 2, 0, 0, 0, 0, 0, 0, 0, ZACPI_TRIGGER_LEVEL, ZACPI_TRIGGER_LEVEL, 0,
+         0, 0, 0, 0, 0, 0, 3, 4, 0, 0, 0, 0, 0, 0, 0, ZACPI_TRIGGER_LEVEL, ZACPI_TRIGGER_LEVEL, 0),
+    NOTHING(list_gic_redistributors, GICCS), NOTHING(list_gic_translation_services, GICCS),
+    NOTHING(list_gic_msi_frames, GICCS),
+
+    OF_ROOT(PART, 46), OF_ROOT(PART_X, 56), OF_ROOT(LOW, 52),
+    GOOD(list_missing_ranges, PART, NULL, NO, 1, 0x1234, 36), GOOD(list_missing_ranges, PART_X, NULL, NO, 1, 0x1234, 36),
+    GOOD(list_missing_ranges, LOW, NULL, NO, 2, 0x500, 36, BASE + SIZE - 20, 36),
+    GOOD(list_faults, PART, "OEM1", NO, 1, 0x1234, ZACPI_MAP_FAILED, 0),
+    GOOD(list_faults, PART_X, "OEM1", NO, 1, 0x1234, ZACPI_MAP_FAILED, 0),
+    GOOD(list_faults, LOW, "OEM1", NO, 2, 0x500, ZACPI_MAP_FAILED, 0, BASE + SIZE - 20, ZACPI_MAP_FAILED, 0),
+    {&call_list_faults, EMPTY, "OEM1", NO, ZACPI_OK, NULL, 0, NULL, 0},
+    GOOD(list_members, PART_X, NULL, NO, 3, AT(FADT_DESKTOP), 116, LETTERS('F', 'A', 'C', 'P'), 1, NO_IDS, 0, 1,
+         AT(OEM2_36), 36, LETTERS('O', 'E', 'M', '2'), 1, NO_IDS, 0, 1, 0x1234, 0, 0, 0, NO_IDS, ZACPI_MAP_FAILED, 0),
+    GOOD(get_sleep_types, POWER_X, NULL, A(5), 1, 5, 6),
+    GOOD(list_ssdts, POWER_X, NULL, NO, 2, AT(SSDT_0) + 36, 0, 1, AT(SSDT_0), AT(SSDT_S5) + 36, 14, 2, AT(SSDT_S5)),
+    REFUSED(get_hpet, PARTLY, NULL, NO, ZACPI_TABLE_MISSING, "HPET"), NOTHING(list_hpets, PARTLY),
+    GOOD(get_interrupt_model, PARTLY, NULL, NO, 1, 0, 0, 0, 0, 0, 0, 0, 0),
+    REFUSED(get_platform, PARTLY, NULL, NO, ZACPI_NO_APICS, NULL),
+
+    OF_UNIT(UNITS_9, DMAR_9, IVRS_9), OF_UNIT(UNITS_1, DMAR_1, IVRS_1),
+    GOOD(list_memory_affinities, SRAT_9, NULL, NO, 1, 0x1000, 0x1000, 6, 0, 0),
+    NOTHING(list_processor_affinities, SRAT_9), NOTHING(list_generic_initiators, SRAT_9),
+    NOTHING(list_its_affinities, SRAT_9),
+    GOOD(list_srat_faults, SRAT_9, NULL, NO, 1, AT(SRAT_OTHERS) + 92, ZACPI_NUMA_INVALID_ENTRY_LENGTH, 9),
+    GOOD(domain_of_address, SRAT_9, NULL, A(0x1fff), 1, 6),
+    REFUSED(domain_of_address, SRAT_9, NULL, A(0x2000), ZACPI_NUMA_INVALID_ENTRY_LENGTH, NULL),
+    REFUSED(domain_of_apic, SRAT_9, NULL, A(1), ZACPI_NUMA_INVALID_ENTRY_LENGTH, NULL),
+    REFUSED(domain_of_processor, SRAT_9, NULL, A(1), ZACPI_NUMA_INVALID_ENTRY_LENGTH, NULL),
+
     /* Tables of the least length have no entry. */
+    REFUSED(domain_of_address, LEAST, NULL, A(0), ZACPI_NO_DOMAIN, NULL),
+    REFUSED(domain_of_apic, LEAST, NULL, A(0), ZACPI_NO_DOMAIN, NULL),
+    REFUSED(domain_of_processor, LEAST, NULL, A(0), ZACPI_NO_DOMAIN, NULL), NOTHING(list_srat_faults, LEAST),
+    REFUSED(pci_ecam_address, LEAST, NULL, A(0, 0, 0, 0), ZACPI_NO_SUCH_FUNCTION, NULL), NOTHING(list_ecam_ranges, LEAST),
+    REFUSED(get_dmar_io_apic, LEAST, NULL, A(0), ZACPI_NO_IOMMU, NULL),
+    REFUSED(get_dmar_hpet, LEAST, NULL, A(0), ZACPI_NO_IOMMU, NULL),
+    REFUSED(list_dmar_scopes, LEAST, NULL, A(0), ZACPI_NO_IOMMU, NULL),
+    REFUSED(list_ivrs_entries, LEAST, NULL, A(0), ZACPI_NO_IOMMU, NULL), NOTHING(list_ivrs_memory, LEAST),
+    REFUSED(get_reset_plan, LEAST, NULL, NO, ZACPI_NO_RESET, NULL),
     GOOD(get_interrupt_model, LEAST, NULL, NO, 1, 0, 0, 0, 0, 0, 0, 0, 0),
     REFUSED(get_platform, LEAST, NULL, NO, ZACPI_NO_APICS, NULL), NOTHING(list_madt_faults, LEAST),
     NO_APIC_LISTS(LEAST), NO_GIC_LISTS(LEAST),

@@ -62,6 +62,7 @@ static const struct row power_rows[] = {
     REFUSED(get_sleep_plan, POWER, NULL, A(6), ZACPI_NO_SUCH_STATE, NULL),
     REFUSED(get_sleep_plan, BARE, NULL, A(5), ZACPI_NO_REGISTER, NULL),
     REFUSED(get_sleep_plan, BROKEN, NULL, A(5), ZACPI_NO_REGISTER, NULL),
+    REFUSED(get_sleep_plan, BROKEN, NULL, A(4), ZACPI_AML_INVALID, "DSDT"),
     REFUSED(get_sleep_plan, FADTLESS, NULL, A(5), ZACPI_TABLE_MISSING, "FACP"),
     REFUSED(get_sleep_plan, HIGH, NULL, A(5), ZACPI_SLEEP_TYPE_TOO_HIGH, NULL), /* of PM1a_CNT */
     REFUSED(get_sleep_plan, HIGH, NULL, A(4), ZACPI_SLEEP_TYPE_TOO_HIGH, NULL), /* of PM1b_CNT */
@@ -79,6 +80,7 @@ static const struct row power_rows[] = {
     GOOD(get_power_off_plan, POWER, NULL, NO, 1, TWO_STEPS(PM1A, PM1B)),
     GOOD(get_power_off_plan, REDUCED, NULL, NO, 1, ONE_STEP(SLEEP_CONTROL)),
     REFUSED(get_power_off_plan, BARE, NULL, NO, ZACPI_NO_REGISTER, NULL),
+    REFUSED(get_power_off_plan, APPLIANCE, NULL, NO, ZACPI_AML_INVALID, "DSDT"), /* zeros */
 
     GOOD(get_reset_plan, POWER, NULL, NO, 1, ONE_STEP(STEP(1, 8, 1, 0xcf9, 0xff, 6, 8, ZACPI_STEP_WRITE))),
     REFUSED(get_reset_plan, REDUCED, NULL, NO, ZACPI_NO_RESET, NULL),

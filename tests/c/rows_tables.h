@@ -6,7 +6,7 @@
 #include "zacpi.h"
 
 #define BASE 0x100000u
-#define SIZE 0x20000u
+#define SIZE 0x24000u
 #define AT(n) (BASE + 0x200u * (n))       /* where table N lies */
 #define TAIL (BASE + SIZE - 36u)          /* the last 36 bytes: a header whose table isn't lent as a whole */
 #define CUT(n) (0x180000u + 0x1000u * (n)) /* three regions with the first bytes of a table each */
@@ -14,6 +14,8 @@
 #define LAST_MADT CUT(3) /* two regions that end with their table */
 #define LAST_MADT_SIZE 53u
 #define LAST_IVRS CUT(4)
+#define PART_HPET CUT(5) /* two more regions of the first bytes */
+#define PART_MADT CUT(6)
 #define LAST_IVRS_SIZE 80u
 #define BIOS 0xe0000u /* the first area in which an RSDP is searched for, and the 16 bytes after it */
 #define BIOS_SIZE 0x20010u
@@ -41,6 +43,7 @@ enum { EMPTY, ARM, PC, ODD, HOLES, SUM, DESKTOP, MOBILE, WORKSTATION, SERVER, SO
        FLAWED,
        LED_BY_SUMS, LED_BY_IDS, ROOT_OEM_ID, ROOT_LONG, OVERRIDES, MEMBERS,
        ALL_KINDS, EVERY, APICS, ENDS_0, ENDS_5, ENDS_LATER_0, ENDS_LATER_5, NO_GICD_5, NO_GICD_LATER_0, NO_GICD_LATER_5,
+       ENDS_OTHER, GICCS, PART, PART_X, LOW, POWER_X, UNITS_9, UNITS_1, SRAT_9, PARTLY, HPET_IDS_ONLY,
        ROOT_TABLE_ID, ROOT_35, ROOT_X_TABLE_ID, /* root tables, in the order of `tables` */
        RSDP_0, RSDP_2, RSDP_40, RSDP_MIXED, RSDP_LONG, RSDP_LOST, RSDP_CUT, RSDP_SHORT, RSDP_TO_SUM, RSDP_OEM_ID,
        RSDP_NONE, /* RSDPs, and the last one is none */
@@ -60,7 +63,8 @@ enum { EMPTY, ARM, PC, ODD, HOLES, SUM, DESKTOP, MOBILE, WORKSTATION, SERVER, SO
        GTDT_EARLY, GTDT_LATE, GTDT_PAST, MADT_BOTH, MADT_OEM_ID, MADT_TABLE_ID, MADT_SUM,
        MADT_VALID, MADT_LOST, FADT_SUM, FADT_OEM_ID, DSDT_SUM, DSDT_TABLE_ID, SSDT_SUM, HPET_SUM, MADT_OVERRIDES,
        SRAT_ALL, DMAR_ALL, MADT_EVERY, MADT_APICS, MADT_ENDS_0, MADT_ENDS_5, MADT_ENDS_LATER_0, MADT_ENDS_LATER_5,
-       MADT_NO_GICD_5, MADT_NO_GICD_LATER_0, MADT_NO_GICD_LATER_5 };
+       MADT_NO_GICD_5, MADT_NO_GICD_LATER_0, MADT_NO_GICD_LATER_5, MADT_ENDS_OTHER, MADT_GICCS, DMAR_9, DMAR_1, IVRS_9,
+       IVRS_1, SRAT_OTHERS, HPET_OEM_ID, HPET_BOTH };
 
 /* Entry[n] of an RSDT, from 36 on (section 5.2.7), and of an XSDT (section 5.2.8). */
 PUTS(no_fields, {36, 0, 0});
@@ -265,9 +269,9 @@ PUTS(slit, {36, 8, 2}, {44, 1, 10}, {45, 1, 20}, {46, 1, 30}, {47, 1, 10});
 PUTS(slit_odd, {36, 8, 3}, {44, 1, 10}, {45, 1, 9}, {46, 1, 8}, {47, 1, 255}); /* of nine it has four */
 
 #include "rows_tables_accept.h"
-#include "rows_tables_every.h"
 #include "rows_tables_faults.h"
 #include "rows_tables_iommu.h"
+#include "rows_tables_every.h"
 #include "rows_tables_kinds.h"
 #include "rows_tables_pc.h"
 #include "rows_tables_power.h"
@@ -310,6 +314,10 @@ static const struct table {
     {AT(ENDS_5), "RSDT", 1, 44, ends_5}, {AT(ENDS_LATER_0), "RSDT", 1, 44, ends_later_0},
     {AT(ENDS_LATER_5), "RSDT", 1, 44, ends_later_5}, {AT(NO_GICD_5), "RSDT", 1, 44, no_gicd_5},
     {AT(NO_GICD_LATER_0), "RSDT", 1, 44, no_gicd_later_0}, {AT(NO_GICD_LATER_5), "RSDT", 1, 44, no_gicd_later_5},
+    {AT(ENDS_OTHER), "RSDT", 1, 44, ends_other}, {AT(GICCS), "RSDT", 1, 44, giccs}, {AT(PART), "RSDT", 1, 46, part},
+    {AT(PART_X), "XSDT", 1, 56, part_x}, {AT(LOW), "RSDT", 1, 52, low}, {AT(POWER_X), "XSDT", 1, 62, power_x},
+    {AT(UNITS_9), "RSDT", 1, 44, units_9}, {AT(UNITS_1), "RSDT", 1, 44, units_1}, {AT(SRAT_9), "RSDT", 1, 40, srat_9},
+    {AT(PARTLY), "RSDT", 1, 48, partly}, {AT(HPET_IDS_ONLY), "RSDT", 1, 44, hpet_ids_only},
     {AT(ROOT_TABLE_ID), "RSDT", 1, 36, root_table_id}, {AT(ROOT_35), "RSDT", 1, 35, no_fields},
     {AT(ROOT_X_TABLE_ID), "XSDT", 1, 36, root_table_id},
     {AT(MADT_GIC), "APIC", 6, 346, madt_gic}, {AT(GTDT), "GTDT", 3, 260, gtdt}, {AT(SRAT), "SRAT", 3, 274, srat},
@@ -390,6 +398,11 @@ static const struct table {
     {AT(MADT_ENDS_LATER_5), "APIC", 6, 90, madt_ends_later_5}, {AT(MADT_NO_GICD_5), "APIC", 6, 68, madt_no_gicd_5},
     {AT(MADT_NO_GICD_LATER_0), "APIC", 6, 70, madt_no_gicd_later_0},
     {AT(MADT_NO_GICD_LATER_5), "APIC", 6, 70, madt_no_gicd_later_5},
+    {AT(MADT_ENDS_OTHER), "APIC", 6, 80, madt_ends_other}, {AT(MADT_GICCS), "APIC", 6, 212, madt_giccs},
+    {AT(DMAR_9), "DMAR", 1, 89, dmar_9}, {AT(DMAR_1), "DMAR", 1, 87, dmar_9}, {AT(IVRS_9), "IVRS", 2, 87, ivrs_9},
+    {AT(IVRS_1), "IVRS", 2, 85, ivrs_9}, {AT(SRAT_OTHERS), "SRAT", 3, 100, srat_others},
+    {PART_HPET, "HPET", 1, 56, no_fields}, {PART_MADT, "APIC", 5, 52, no_fields},
+    {AT(HPET_OEM_ID), "HPET", 1, 56, hpet_oem_id}, {AT(HPET_BOTH), "HPET", 1, 56, hpet_both},
     {LAST_MADT, "APIC", 5, LAST_MADT_SIZE, last_madt}, {LAST_IVRS, "IVRS", 2, LAST_IVRS_SIZE, last_ivrs},
     {BIOS + 0x10000, "RSDT", 1, 36, no_fields}};
 

@@ -13,6 +13,21 @@ PUTS(no_gicd_5, {36, 4, AT(FADT)}, {40, 4, AT(MADT_NO_GICD_5)});
 PUTS(no_gicd_later_0, {36, 4, AT(FADT)}, {40, 4, AT(MADT_NO_GICD_LATER_0)});
 PUTS(no_gicd_later_5, {36, 4, AT(FADT)}, {40, 4, AT(MADT_NO_GICD_LATER_5)});
 
+PUTS(ends_other, {36, 4, AT(FADT)}, {40, 4, AT(MADT_ENDS_OTHER)});
+PUTS(giccs, {36, 4, AT(FADT)}, {40, 4, AT(MADT_GICCS)});
+/* The last pointer has two bytes, or four of eight, and zeros after them. */
+PUTS(part, {36, 4, AT(FADT_DESKTOP)}, {40, 4, AT(OEM2_36)}, {44, 2, 0x1234});
+PUTS(part_x, {36, 8, AT(FADT_DESKTOP)}, {44, 8, AT(OEM2_36)}, {52, 4, 0x1234});
+/* A pointer below all regions, and one to the last 20 bytes of one. */
+PUTS(low, {36, 4, 0x500}, {40, 4, BASE + SIZE - 20}, {44, 4, AT(FADT_DESKTOP)}, {48, 4, AT(OEM2_36)});
+PUTS(power_x, {36, 8, AT(FADT_POWER)}, {44, 8, AT(SSDT_0)}, {52, 8, AT(SSDT_S5)}, {60, 2, 0x1234});
+PUTS(units_9, {36, 4, AT(DMAR_9)}, {40, 4, AT(IVRS_9)});
+PUTS(units_1, {36, 4, AT(DMAR_1)}, {40, 4, AT(IVRS_1)});
+PUTS(srat_9, {36, 4, AT(SRAT_OTHERS)});
+/* Of two tables the header and four bytes are lent. */
+PUTS(partly, {36, 4, PART_HPET}, {40, 4, PART_MADT}, {44, 4, AT(FADT_DESKTOP)});
+PUTS(hpet_ids_only, {36, 4, AT(HPET_BOTH)}, {40, 4, AT(HPET_OEM_ID)});
+
 #define OTHER(at) {at, 2, HEADER(0x80, 2)} /* of an OEM */
 /* The first 279 bytes have what a PC has, and the entries of a RISC-V machine; SAPICs and a GIC come after them. */
 PUTS(madt_every,
@@ -64,8 +79,33 @@ PUTS(madt_ends_0, BEFORE_THE_END, {76, 2, HEADER(1, 0)});
 PUTS(madt_ends_5, BEFORE_THE_END, {76, 2, HEADER(1, 5)});
 PUTS(madt_ends_later_0, BEFORE_THE_END, OTHER(76), {78, 2, HEADER(1, 0)});
 PUTS(madt_ends_later_5, BEFORE_THE_END, OTHER(76), {78, 2, HEADER(1, 5)});
+/* An entry of an OEM whose Length is after the table. */
+PUTS(madt_ends_other, BEFORE_THE_END, {76, 2, HEADER(0x80, 40)});
+/* A processor, and two GICCs, of which the first lacks TRBE Interrupt. */
+PUTS(madt_giccs,
+    {44, 2, HEADER(0, 8)}, {44 + 2, 1, 1} /* ACPI Processor UID */, {44 + 3, 1, 10} /* APIC ID */,
+    {44 + 4, 4, 1} /* Flags: Enabled */,
+    {52, 2, HEADER(0x0b, 80)}, {52 + 4, 4, 1} /* CPU Interface Number */, {52 + 8, 4, 2} /* ACPI Processor UID */,
+    {132, 2, HEADER(0x0b, 80)}, {132 + 4, 4, 3} /* CPU Interface Number */, {132 + 8, 4, 4} /* ACPI Processor UID */);
 /* No distributor, since its Length is 5, or after an entry of an OEM 0 or 5, where 24 are the least. */
 PUTS(madt_no_gicd_5, {44, 2, HEADER(0x0c, 5)});
 PUTS(madt_no_gicd_later_0, OTHER(44), {46, 2, HEADER(0x0c, 0)});
 PUTS(madt_no_gicd_later_5, OTHER(44), {46, 2, HEADER(0x0c, 5)});
+
+/* A unit between structures of reserved Types, and then three bytes, of which none begins a structure, or one. */
+PUTS(dmar_9,
+    STRUCTURE(48, 9, 8), DRHD(56, 24, 0, 0, 0, 0xfed90000), SCOPE(72, 1, 8, 0, 0), HOP(78, 2, 0) /* an endpoint */,
+    STRUCTURE(80, 7, 6));
+PUTS(ivrs_9,
+    BLOCK(48, 0x10, 1, 28, 2), IVHD(48, 0x40, 0xfeb80000, 0, 3, 0x11223344), ENTRY(72, 1, 0, 0xd7) /* all */,
+    BLOCK(76, 0x50, 0, 8, 0) /* a reserved Type */);
+/* Memory between entries of a reserved Type, of which the last one's Length is after the table. */
+PUTS(srat_others,
+    {48, 2, HEADER(9, 4)}, {52, 2, HEADER(1, 40)}, {52 + 2, 4, 6} /* Proximity Domain */,
+    {52 + 8, 8, 0x1000} /* Base Address */, {52 + 16, 8, 0x1000} /* Length */, {52 + 28, 4, 1} /* Flags: Enabled */,
+    {92, 2, HEADER(9, 60)});
+
+/* HPETs whose OEMID isn't UTF-8, with and without a bad Checksum. */
+PUTS(hpet_oem_id, {44, 8, 0xfed50000} /* BASE_ADDRESS: Address */, BAD_OEM_ID);
+PUTS(hpet_both, {44, 8, 0xfed60000} /* BASE_ADDRESS: Address */, BAD_OEM_ID, BAD_SUM);
 #endif

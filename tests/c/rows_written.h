@@ -342,6 +342,7 @@ static zacpi_status a_facs(uint8_t *to, size_t room, size_t *length) {
 }
 
 #include "rows_read.h"
+#include "rows_long.h"
 
 /* What is written, or the error, whatever room there is; and the status if a name isn't UTF-8: that error comes after
  * those of what one table is to say, and of a machine after that of bytes that aren't a table. A FACS has no names. */
@@ -442,6 +443,7 @@ static void check_all_written(void) {
     check_gic_codes();
     check_places();
     check_facs_places();
+    check_too_long();
     /* What is written, read again: a part that writes alone has no call for it. */
     if (is_there("open")) check_all_codes(), check_flags(), check_rintc_lengths(), check_texts(), check_all_read();
 }
