@@ -294,6 +294,27 @@ static void check_written_code(const struct zacpi_fixed_hardware *given, int hol
            && is_left_but(&out, holds ? FADT_SIZE : 0) && (!holds || !memcmp(out.at, bytes, FADT_SIZE)), "written",
            (int)(spot->x + byte), value, got);
 }
+/* A register that isn't there is written as zeros, and neither its codes nor its width are looked at; PM1_EVT_LEN and
+ * PM1_CNT_LEN are those of PM1a. */
+static void check_absent(const union coded_output *given, const struct spot *spot) {
+    union coded_output without = *given;
+    struct zacpi_register *shown = (void *)(without.bytes + spot->in_record);
+    struct zacpi_gpe_block *block = (void *)(without.bytes + spot->block);
+    const int is_pm1b = spot == spots + 1 || spot == spots + PM1B_CONTROL;
+    uint8_t bytes[FADT_SIZE];
+    size_t *length = paint_size(&out_count);
+    zacpi_status got;
+    if (spot->block) block->space = 0x0b, block->present = 0;
+    else shown->at.space = 0x0b, shown->at.access_size = 5, shown->present = 0;
+    lay_every_register(bytes);
+    memset(bytes + spot->x, 0, 12);
+    if (spot->port) put(bytes + spot->port, 4, 0);
+    if (spot->port && !is_pm1b) bytes[spot->length] = 0;
+    sum_up(bytes, FADT_SIZE);
+    got = zacpi_write_fadt(ids, &without.fixed, (uint8_t *)paint(&out, FADT_SIZE), FADT_SIZE, length);
+    result(!got && *length == FADT_SIZE && !memcmp(out.at, bytes, FADT_SIZE), "absent", (int)spot->x, 0, got);
+}
+
 static void check_written_codes(void) {
     static const uint8_t no_presences[] = {2, 3, 255};
     union coded_output given;
@@ -310,6 +331,7 @@ static void check_written_codes(void) {
         const int is_looked_at = spot != spots && spot != spots + PM1A_CONTROL && spot != spots + RESET;
         struct zacpi_register *shown = (void *)(given.bytes + spot->in_record);
         struct zacpi_gpe_block *block = (void *)(given.bytes + spot->block);
+        if (is_looked_at) check_absent(&given, spot);
         for (k = 0; k < sizeof codes; k++) {
             *(spot->block ? &block->space : &shown->at.space) = codes[k];
             check_written_code(&given.fixed, is_space(codes[k]), spot, 0, codes[k]);

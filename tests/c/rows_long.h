@@ -1,6 +1,6 @@
 /* Tables of 2^32 bytes, which no Length has, and of a capacity that is as large: what is passed are pages that nobody
- * touches, since each call fails before it reads or writes; they are never given back. For rows_written.h, with addresses of 64 bits alone, and
- * where there is so much address space. */
+ * touches, since each call fails before it reads or writes; they are never given back. For rows_written.h, with
+ * addresses of 64 bits alone, and where there is so much address space. */
 #ifndef ROWS_LONG_H
 #define ROWS_LONG_H
 

@@ -343,6 +343,7 @@ static zacpi_status a_facs(uint8_t *to, size_t room, size_t *length) {
 
 #include "rows_read.h"
 #include "rows_long.h"
+#include "rows_more.h"
 
 /* What is written, or the error, whatever room there is; and the status if a name isn't UTF-8: that error comes after
  * those of what one table is to say, and of a machine after that of bytes that aren't a table. A FACS has no names. */
@@ -408,6 +409,13 @@ static const struct written_row {
     NOT_WRITTEN(no_interface, ZACPI_NO_PROCESSOR), NOT_WRITTEN(long_range, ZACPI_BAD_RANGE),
     WRITTEN(a_riscv_madt, riscv_bytes), NOT_WRITTEN(no_hart, ZACPI_NO_PROCESSOR),
     WRITTEN(an_rhct, rhct_bytes), WRITTEN(an_rhct_without_isa, rhct_of_no_isa_bytes),
+    WRITTEN(an_empty_rsdt, empty_rsdt_bytes), WRITTEN(harts, harts_alone_bytes),
+    WRITTEN(two_controllers, two_of_each_bytes), WRITTEN(a_gic_of_two, two_of_a_gic_bytes),
+    WRITTEN(a_gtdt_of_other_flags, other_flags_bytes), WRITTEN(a_machine_of_no_aml, no_aml_bytes),
+    WRITTEN(a_machine_of_no_length, no_length_bytes), WRITTEN(a_machine_of_other_length, other_length_bytes),
+    WRITTEN(an_empty_tree, empty_tree_bytes),
+    {"a_facs_of_s4bios", a_facs_of_s4bios, LISTED(facs_of_s4bios_bytes), ZACPI_OK, ZACPI_OK},
+    {"a_facs_of_64_bits", a_facs_of_64_bits, LISTED(facs_of_64_bits_bytes), ZACPI_OK, ZACPI_OK},
     NOT_WRITTEN(an_rhct_without_hart, ZACPI_NO_PROCESSOR), NOT_WRITTEN(an_rhct_of_long_isa, ZACPI_TOO_LONG)};
 
 static void check_written(const struct written_row *row, size_t room, zacpi_status status) {
@@ -426,6 +434,7 @@ static void check_all_written(void) {
     size_t i, k;
     lay_machines();
     lay_arm_machine();
+    lay_dsdts();
     for (i = 0; i < sizeof written / sizeof *written; i++) {
         const struct written_row *row = written + i;
         const size_t most = row->status ? 35 : row->length;
@@ -443,6 +452,7 @@ static void check_all_written(void) {
     check_gic_codes();
     check_places();
     check_facs_places();
+    check_bad_tables();
     check_too_long();
     /* What is written, read again: a part that writes alone has no call for it. */
     if (is_there("open")) check_all_codes(), check_flags(), check_rintc_lengths(), check_texts(), check_all_read();
