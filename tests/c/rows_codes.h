@@ -162,11 +162,37 @@ static void check_reader(const struct reader *reader) {
     }
     if (reader->is_reduced) coded_fadt[114] ^= 0x10;
 }
+/* Of a FADT of 124 bytes the fixed hardware has a RESET_REG with the first half of its Address, and each code of it. */
+static void check_half_reset(void) {
+    static const uint8_t bytes[] = {0, 3};
+    const struct spot *spot = spots + RESET;
+    size_t i, k;
+    for (i = 0; i < 2; i++)
+        for (k = 0; k < sizeof codes; k++) {
+            const uint8_t was = coded_fadt[spot->x + bytes[i]];
+            struct zacpi_register wanted = {spot->at, 1};
+            const struct zacpi_register *shown;
+            zacpi_status got;
+            if (!is_code(bytes[i], codes[k])) refuse(&wanted);
+            else if (bytes[i]) wanted.at.access_size = codes[k];
+            else wanted.at.space = codes[k];
+            coded_fadt[spot->x + bytes[i]] = codes[k], sum_up(coded_fadt, 124);
+            got = read_fixed(paint(&out, sizeof(fixed)));
+            shown = &((const fixed *)(const void *)out.at)->reset;
+            result(!got && shown->present == wanted.present && shown->at.address == wanted.at.address
+                   && shown->at.space == wanted.at.space && shown->at.bit_width == wanted.at.bit_width
+                   && shown->at.bit_offset == wanted.at.bit_offset && shown->at.access_size == wanted.at.access_size,
+                   "half a reset", (int)bytes[i], codes[k], got);
+            coded_fadt[spot->x + bytes[i]] = was;
+        }
+}
+
 static void check_read_codes(void) {
     const struct reader *reader;
     for (reader = readers; reader < readers + sizeof readers / sizeof *readers; reader++) check_reader(reader);
     coded_regions[1].length = 124, put(coded_fadt + 4, 4, 124);
     check_reader(&front_reader);
+    check_half_reset();
     coded_regions[1].length = FADT_SIZE, put(coded_fadt + 4, 4, FADT_SIZE), sum_up(coded_fadt, FADT_SIZE);
 }
 

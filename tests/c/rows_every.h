@@ -66,10 +66,10 @@
     NOTHING(list_gic_cpu_interfaces, machine), NOTHING(list_gic_redistributors, machine), \
     NOTHING(list_gic_translation_services, machine), NOTHING(list_gic_msi_frames, machine), \
     REFUSED(list_rintcs, machine, NULL, NO, ZACPI_NO_RISCV, NULL)
-#define NOTHING_BEFORE(machine, madt, at) \
+#define NOTHING_BEFORE(machine, madt, at, type) \
     REFUSED(get_interrupt_model, machine, NULL, NO, ZACPI_MADT_INVALID_ENTRY_LENGTH, NULL), \
     REFUSED(get_platform, machine, NULL, NO, ZACPI_MADT_INVALID_ENTRY_LENGTH, NULL), \
-    GOOD(list_madt_faults, machine, NULL, NO, 1, AT(madt) + at, ZACPI_MADT_INVALID_ENTRY_LENGTH, 0x0c), \
+    GOOD(list_madt_faults, machine, NULL, NO, 1, AT(madt) + at, ZACPI_MADT_INVALID_ENTRY_LENGTH, type), \
     GOOD(get_local_apic, machine, NULL, NO, 1, 0, 0), \
     REFUSED(get_mailbox_address, machine, NULL, NO, ZACPI_MADT_INVALID_ENTRY_LENGTH, NULL), \
     REFUSED(get_gic_distributor, machine, NULL, NO, ZACPI_MADT_INVALID_ENTRY_LENGTH, NULL), \
@@ -109,6 +109,15 @@
     NOTHING(list_ivrs_memory, machine), NOTHING(list_ivrs_regions, machine), \
     GOOD(list_ivrs_faults, machine, NULL, NO, 1, AT(ivrs) + 84, ZACPI_IOMMU_INVALID_STRUCTURE_LENGTH, 0)
 
+/* Timers of zeros, active high and by level, and none of Virtual EL2. */
+#define NO_TIMERS(machine, malformed) \
+    GOOD(get_arm_timers, machine, NULL, NO, 1, 0, 0, 0, 1, 3, 0, 1, 0, 1, 3, 0, 1, 0, 1, 3, 0, 1, 0, 1, 3, 0, 1, \
+         0, 0, 0, 0, 0, malformed)
+#define ONE_FAULT(machine, madt, error, type) \
+    REFUSED(get_interrupt_model, machine, NULL, NO, error, NULL), REFUSED(get_platform, machine, NULL, NO, \
+    error, NULL), \
+    GOOD(list_madt_faults, machine, NULL, NO, 1, AT(madt) + 44, error, type)
+
 static const struct row every_rows[] = {
     GOOD(get_interrupt_model, APICS, NULL, NO, 1, 0x1fee00000, 2, 1, 1, 2, 2, 1, 1),
     GOOD(get_platform, APICS, NULL, NO, 1, 0x1fee00000, 2, 1, 1, 2, 2, 1, 1, 2, 2, 1, 1, 2,
@@ -136,8 +145,29 @@ static const struct row every_rows[] = {
     ENDS_EARLY(ENDS_0, MADT_ENDS_0, 76, 1), ENDS_EARLY(ENDS_5, MADT_ENDS_5, 76, 1),
     ENDS_EARLY(ENDS_LATER_0, MADT_ENDS_LATER_0, 78, 1), ENDS_EARLY(ENDS_LATER_5, MADT_ENDS_LATER_5, 78, 1),
     ENDS_EARLY(ENDS_OTHER, MADT_ENDS_OTHER, 76, 0x80),
-    NOTHING_BEFORE(NO_GICD_5, MADT_NO_GICD_5, 44), NOTHING_BEFORE(NO_GICD_LATER_0, MADT_NO_GICD_LATER_0, 46),
-    NOTHING_BEFORE(NO_GICD_LATER_5, MADT_NO_GICD_LATER_5, 46),
+    NOTHING_BEFORE(NO_GICD_0, MADT_NO_GICD_0, 44, 0x0c), NOTHING_BEFORE(NO_GICD_5, MADT_NO_GICD_5, 44, 0x0c),
+    NOTHING_BEFORE(NO_GICD_LATER_0, MADT_NO_GICD_LATER_0, 46, 0x0c),
+    NOTHING_BEFORE(NO_GICD_LATER_5, MADT_NO_GICD_LATER_5, 46, 0x0c),
+    NOTHING_BEFORE(NO_GICD_OTHER, MADT_NO_GICD_OTHER, 44, 0x80),
+    NO_APIC_LISTS(ARM), NO_APIC_LISTS(HALF), /* GICCs of 76, 79, 81 and 82 bytes */
+
+    ONE_FAULT(NMI_TRIGGER, MADT_NMI_TRIGGER, ZACPI_MADT_MPS_INTI_INVALID_TRIGGER_MODE, 3),
+    ONE_FAULT(X2_LINT_2, MADT_X2_LINT_2, ZACPI_MADT_INVALID_LOCAL_NMI_LINE, 0x0a),
+    ONE_FAULT(OVERRIDE_POLARITY, MADT_OVERRIDE_POLARITY, ZACPI_MADT_MPS_INTI_INVALID_POLARITY, 2),
+    ONE_FAULT(OVERRIDE_TRIGGER, MADT_OVERRIDE_TRIGGER, ZACPI_MADT_MPS_INTI_INVALID_TRIGGER_MODE, 2),
+    GOOD(get_sci_interrupt, SCI_20, NULL, NO, 1, 20, ZACPI_POLARITY_LOW, ZACPI_TRIGGER_LEVEL),
+    GOOD(get_sci_interrupt, SCI_AS_BUS, NULL, NO, 1, 22, ZACPI_POLARITY_LOW, ZACPI_TRIGGER_LEVEL),
+    GOOD(get_localities, SLIT_OF_11, NULL, NO, 1, 2, 0), GOOD(get_localities, SLIT_OF_10, NULL, NO, 1, 2, 0),
+    GOOD(get_localities, SLIT_OF_MANY, NULL, NO, 1, 0x8000000000000000, 0),
+    GOOD(distance, SLIT_OF_MANY, NULL, A(0, 0), 1, 10),
+    REFUSED(distance, SLIT_OF_MANY, NULL, A(2, 0), ZACPI_NO_DISTANCE, NULL), /* at 44 and 2^64 */
+    NO_TIMERS(EARLY, 1), NO_TIMERS(LATE, 1), NO_TIMERS(PAST, 1), NO_TIMERS(LEAST, 0), NO_TIMERS(TIMERS_3, 0),
+    NOTHING(list_gt_frames, EARLY), NOTHING(list_gt_frames, LATE), NOTHING(list_gt_frames, PAST),
+    NOTHING(list_watchdogs, EARLY), NOTHING(list_watchdogs, LATE), NOTHING(list_watchdogs, PAST),
+    NOTHING(list_watchdogs, LEAST), NOTHING(list_gtdt_faults, LEAST), NOTHING(list_gtdt_faults, TIMERS_3),
+    GOOD(list_watchdogs, TIMERS_3, NULL, NO, 1, 0, 0, 0, 1, 3, 0),
+    GOOD(get_ivrs_unit, UNITS_LONG, NULL, A(0, 5), 1, BLOCK_10, 5, 0xd7),
+    NOTHING(list_ivrs_faults, UNITS_LONG),
 
     /* Of a GICC of 80 bytes neither what is after SPE overflow Interrupt is read nor what is after the entry. */
     REFUSED(get_interrupt_model, GICCS, NULL, NO, ZACPI_MADT_UNEXPECTED_ENTRY, NULL),

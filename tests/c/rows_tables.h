@@ -6,7 +6,7 @@
 #include "zacpi.h"
 
 #define BASE 0x100000u
-#define SIZE 0x24000u
+#define SIZE 0x28000u
 #define AT(n) (BASE + 0x200u * (n))       /* where table N lies */
 #define TAIL (BASE + SIZE - 36u)          /* the last 36 bytes: a header whose table isn't lent as a whole */
 #define CUT(n) (0x180000u + 0x1000u * (n)) /* three regions with the first bytes of a table each */
@@ -44,6 +44,8 @@ enum { EMPTY, ARM, PC, ODD, HOLES, SUM, DESKTOP, MOBILE, WORKSTATION, SERVER, SO
        LED_BY_SUMS, LED_BY_IDS, ROOT_OEM_ID, ROOT_LONG, OVERRIDES, MEMBERS,
        ALL_KINDS, EVERY, APICS, ENDS_0, ENDS_5, ENDS_LATER_0, ENDS_LATER_5, NO_GICD_5, NO_GICD_LATER_0, NO_GICD_LATER_5,
        ENDS_OTHER, GICCS, PART, PART_X, LOW, POWER_X, UNITS_9, UNITS_1, SRAT_9, PARTLY, HPET_IDS_ONLY,
+       SCI_20, SCI_AS_BUS, SLIT_OF_11, SLIT_OF_10, SLIT_OF_MANY, NO_GICD_0, NO_GICD_OTHER, NMI_TRIGGER, X2_LINT_2,
+       OVERRIDE_POLARITY, OVERRIDE_TRIGGER, UNITS_LONG, TIMERS_3,
        ROOT_TABLE_ID, ROOT_35, ROOT_X_TABLE_ID, /* root tables, in the order of `tables` */
        RSDP_0, RSDP_2, RSDP_40, RSDP_MIXED, RSDP_LONG, RSDP_LOST, RSDP_CUT, RSDP_SHORT, RSDP_TO_SUM, RSDP_OEM_ID,
        RSDP_NONE, /* RSDPs, and the last one is none */
@@ -64,7 +66,9 @@ enum { EMPTY, ARM, PC, ODD, HOLES, SUM, DESKTOP, MOBILE, WORKSTATION, SERVER, SO
        MADT_VALID, MADT_LOST, FADT_SUM, FADT_OEM_ID, DSDT_SUM, DSDT_TABLE_ID, SSDT_SUM, HPET_SUM, MADT_OVERRIDES,
        SRAT_ALL, DMAR_ALL, MADT_EVERY, MADT_APICS, MADT_ENDS_0, MADT_ENDS_5, MADT_ENDS_LATER_0, MADT_ENDS_LATER_5,
        MADT_NO_GICD_5, MADT_NO_GICD_LATER_0, MADT_NO_GICD_LATER_5, MADT_ENDS_OTHER, MADT_GICCS, DMAR_9, DMAR_1, IVRS_9,
-       IVRS_1, SRAT_OTHERS, HPET_OEM_ID, HPET_BOTH };
+       IVRS_1, SRAT_OTHERS, HPET_OEM_ID, HPET_BOTH,
+       FADT_SCI_20, MADT_AS_BUS, SLIT_11, SLIT_10, SLIT_MANY, MADT_NO_GICD_0, MADT_NO_GICD_OTHER, MADT_NMI_TRIGGER,
+       MADT_X2_LINT_2, MADT_OVERRIDE_POLARITY, MADT_OVERRIDE_TRIGGER, IVRS_LONG, GTDT_3 };
 
 /* Entry[n] of an RSDT, from 36 on (section 5.2.7), and of an XSDT (section 5.2.8). */
 PUTS(no_fields, {36, 0, 0});
@@ -318,6 +322,13 @@ static const struct table {
     {AT(PART_X), "XSDT", 1, 56, part_x}, {AT(LOW), "RSDT", 1, 52, low}, {AT(POWER_X), "XSDT", 1, 62, power_x},
     {AT(UNITS_9), "RSDT", 1, 44, units_9}, {AT(UNITS_1), "RSDT", 1, 44, units_1}, {AT(SRAT_9), "RSDT", 1, 40, srat_9},
     {AT(PARTLY), "RSDT", 1, 48, partly}, {AT(HPET_IDS_ONLY), "RSDT", 1, 44, hpet_ids_only},
+    {AT(SCI_20), "RSDT", 1, 44, sci_20}, {AT(SCI_AS_BUS), "RSDT", 1, 44, sci_as_bus},
+    {AT(SLIT_OF_11), "RSDT", 1, 40, slit_of_11}, {AT(SLIT_OF_10), "RSDT", 1, 40, slit_of_10},
+    {AT(SLIT_OF_MANY), "RSDT", 1, 40, slit_of_many}, {AT(NO_GICD_0), "RSDT", 1, 44, no_gicd_0},
+    {AT(NO_GICD_OTHER), "RSDT", 1, 44, no_gicd_other}, {AT(NMI_TRIGGER), "RSDT", 1, 44, nmi_trigger},
+    {AT(X2_LINT_2), "RSDT", 1, 44, x2_lint_2}, {AT(OVERRIDE_POLARITY), "RSDT", 1, 44, override_polarity},
+    {AT(OVERRIDE_TRIGGER), "RSDT", 1, 44, override_trigger}, {AT(UNITS_LONG), "RSDT", 1, 40, units_long},
+    {AT(TIMERS_3), "RSDT", 1, 40, timers_3},
     {AT(ROOT_TABLE_ID), "RSDT", 1, 36, root_table_id}, {AT(ROOT_35), "RSDT", 1, 35, no_fields},
     {AT(ROOT_X_TABLE_ID), "XSDT", 1, 36, root_table_id},
     {AT(MADT_GIC), "APIC", 6, 346, madt_gic}, {AT(GTDT), "GTDT", 3, 260, gtdt}, {AT(SRAT), "SRAT", 3, 274, srat},
@@ -403,6 +414,14 @@ static const struct table {
     {AT(IVRS_1), "IVRS", 2, 85, ivrs_9}, {AT(SRAT_OTHERS), "SRAT", 3, 100, srat_others},
     {PART_HPET, "HPET", 1, 56, no_fields}, {PART_MADT, "APIC", 5, 52, no_fields},
     {AT(HPET_OEM_ID), "HPET", 1, 56, hpet_oem_id}, {AT(HPET_BOTH), "HPET", 1, 56, hpet_both},
+    {AT(FADT_SCI_20), "FACP", 1, 116, fadt_sci_20}, {AT(MADT_AS_BUS), "APIC", 5, 62, madt_as_bus},
+    {AT(SLIT_11), "SLIT", 1, 48, slit_11}, {AT(SLIT_10), "SLIT", 1, 48, slit_10},
+    {AT(SLIT_MANY), "SLIT", 1, 48, slit_many}, {AT(MADT_NO_GICD_0), "APIC", 5, 68, madt_no_gicd_0},
+    {AT(MADT_NO_GICD_OTHER), "APIC", 5, 48, madt_no_gicd_other},
+    {AT(MADT_NMI_TRIGGER), "APIC", 5, 52, madt_nmi_trigger}, {AT(MADT_X2_LINT_2), "APIC", 5, 56, madt_x2_lint_2},
+    {AT(MADT_OVERRIDE_POLARITY), "APIC", 5, 54, madt_override_polarity},
+    {AT(MADT_OVERRIDE_TRIGGER), "APIC", 5, 54, madt_override_trigger}, {AT(IVRS_LONG), "IVRS", 2, 124, ivrs_long},
+    {AT(GTDT_3), "GTDT", 3, 124, gtdt_3},
     {LAST_MADT, "APIC", 5, LAST_MADT_SIZE, last_madt}, {LAST_IVRS, "IVRS", 2, LAST_IVRS_SIZE, last_ivrs},
     {BIOS + 0x10000, "RSDT", 1, 36, no_fields}};
 

@@ -27,7 +27,21 @@ PUTS(srat_9, {36, 4, AT(SRAT_OTHERS)});
 /* Of two tables the header and four bytes are lent. */
 PUTS(partly, {36, 4, PART_HPET}, {40, 4, PART_MADT}, {44, 4, AT(FADT_DESKTOP)});
 PUTS(hpet_ids_only, {36, 4, AT(HPET_BOTH)}, {40, 4, AT(HPET_OEM_ID)});
+PUTS(sci_20, {36, 4, AT(FADT_SCI_20)}, {40, 4, AT(MADT_PC)});
+PUTS(sci_as_bus, {36, 4, AT(FADT)}, {40, 4, AT(MADT_AS_BUS)});
+PUTS(slit_of_11, {36, 4, AT(SLIT_11)});
+PUTS(slit_of_10, {36, 4, AT(SLIT_10)});
+PUTS(slit_of_many, {36, 4, AT(SLIT_MANY)});
+PUTS(no_gicd_0, {36, 4, AT(FADT)}, {40, 4, AT(MADT_NO_GICD_0)});
+PUTS(no_gicd_other, {36, 4, AT(FADT)}, {40, 4, AT(MADT_NO_GICD_OTHER)});
+PUTS(nmi_trigger, {36, 4, AT(FADT)}, {40, 4, AT(MADT_NMI_TRIGGER)});
+PUTS(x2_lint_2, {36, 4, AT(FADT)}, {40, 4, AT(MADT_X2_LINT_2)});
+PUTS(override_polarity, {36, 4, AT(FADT)}, {40, 4, AT(MADT_OVERRIDE_POLARITY)});
+PUTS(override_trigger, {36, 4, AT(FADT)}, {40, 4, AT(MADT_OVERRIDE_TRIGGER)});
+PUTS(units_long, {36, 4, AT(IVRS_LONG)});
+PUTS(timers_3, {36, 4, AT(GTDT_3)});
 
+#define WATCHDOG_AT(at) {at, 1, 1} /* Type: Arm Generic Watchdog */, {at + 1, 2, 28} /* Length */
 #define OTHER(at) {at, 2, HEADER(0x80, 2)} /* of an OEM */
 /* The first 279 bytes have what a PC has, and the entries of a RISC-V machine; SAPICs and a GIC come after them. */
 PUTS(madt_every,
@@ -91,6 +105,28 @@ PUTS(madt_giccs,
 PUTS(madt_no_gicd_5, {44, 2, HEADER(0x0c, 5)});
 PUTS(madt_no_gicd_later_0, OTHER(44), {46, 2, HEADER(0x0c, 0)});
 PUTS(madt_no_gicd_later_5, OTHER(44), {46, 2, HEADER(0x0c, 5)});
+/* The same without an entry before it; and an entry of an OEM alone, whose Length is after the table. */
+PUTS(madt_no_gicd_0, {44, 2, HEADER(0x0c, 0)});
+PUTS(madt_no_gicd_other, {44, 2, HEADER(0x80, 40)});
+
+/* One code of an entry is at fault: Flags of an NMI Source, active high, trigger 2; Local x2APIC LINT# 2; Flags of an
+ * Interrupt Source Override, polarity 2, level, and active high, trigger 2. */
+PUTS(madt_nmi_trigger, {44, 2, HEADER(3, 8)}, {44 + 2, 2, 9}, {44 + 4, 4, 30} /* Global System Interrupt */);
+PUTS(madt_x2_lint_2, {44, 2, HEADER(0xa, 12)}, {44 + 4, 4, 7} /* ACPI Processor UID */, {44 + 8, 1, 2});
+PUTS(madt_override_polarity, {44, 2, HEADER(2, 10)}, {44 + 3, 1, 4} /* Source */, {44 + 8, 2, 0xe});
+PUTS(madt_override_trigger, {44, 2, HEADER(2, 10)}, {44 + 3, 1, 4} /* Source */, {44 + 8, 2, 9});
+
+/* SCI_INT that no override can have, and an override of SCI_INT that has no codes of its own. */
+PUTS(fadt_sci_20, {46, 2, 20});
+PUTS(madt_as_bus, {44, 2, HEADER(0, 8)}, {52, 2, HEADER(2, 10)}, {52 + 3, 1, 9} /* Source */, {52 + 4, 4, 22});
+
+/* Revision 3, in which a watchdog is where Virtual EL2 Timer would be. */
+PUTS(gtdt_3, {88, 4, 1} /* Platform Timer Count */, {92, 4, 96} /* Platform Timer Offset */, WATCHDOG_AT(96));
+
+/* A locality that is 11 from itself, one that is 10 from another, and more localities than bytes can be. */
+PUTS(slit_11, {36, 8, 2}, {44, 1, 11}, {45, 1, 20}, {46, 1, 30}, {47, 1, 10});
+PUTS(slit_10, {36, 8, 2}, {44, 1, 10}, {45, 1, 10}, {46, 1, 30}, {47, 1, 10});
+PUTS(slit_many, {36, 8, 0x8000000000000000}, {44, 1, 10});
 
 /* A unit between structures of reserved Types, and then three bytes, of which none begins a structure, or one. */
 PUTS(dmar_9,
@@ -99,6 +135,10 @@ PUTS(dmar_9,
 PUTS(ivrs_9,
     BLOCK(48, 0x10, 1, 28, 2), IVHD(48, 0x40, 0xfeb80000, 0, 3, 0x11223344), ENTRY(72, 1, 0, 0xd7) /* all */,
     BLOCK(76, 0x50, 0, 8, 0) /* a reserved Type */);
+/* Entries of reserved Types, of 16 bytes from 0x80 on and of 32 from 0xc0 on, before one for all devices. */
+PUTS(ivrs_long,
+    BLOCK(48, 0x10, 1, 76, 2), IVHD(48, 0x40, 0xfeb80000, 0, 3, 0x11223344), ENTRY(72, 0x80, 5, 6),
+    ENTRY(88, 0xc0, 7, 8), ENTRY(120, 1, 0, 0xd7));
 /* Memory between entries of a reserved Type, of which the last one's Length is after the table. */
 PUTS(srat_others,
     {48, 2, HEADER(9, 4)}, {52, 2, HEADER(1, 40)}, {52 + 2, 4, 6} /* Proximity Domain */,
