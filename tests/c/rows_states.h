@@ -238,200 +238,226 @@ static const uint8_t state_104[12] = {
 static const uint8_t state_105[12] = {
     8, 95, 83, 53, 90, 18, 6, 2, 10, 7, 10, 6};
 static const uint8_t state_106[17] = {
+    8, 46, 95, 83, 66, 95, 95, 83, 53, 95, 18, 6, 2, 10, 7, 10, 6};
+static const uint8_t state_107[17] = {
+    8, 46, 48, 83, 66, 95, 95, 83, 53, 95, 18, 6, 2, 10, 7, 10, 6};
+static const uint8_t state_108[17] = {
+    8, 46, 95, 96, 66, 95, 95, 83, 53, 95, 18, 6, 2, 10, 7, 10, 6};
+static const uint8_t state_109[17] = {
+    8, 46, 95, 83, 96, 95, 95, 83, 53, 95, 18, 6, 2, 10, 7, 10, 6};
+static const uint8_t state_110[17] = {
+    8, 46, 95, 83, 66, 96, 95, 83, 53, 95, 18, 6, 2, 10, 7, 10, 6};
+static const uint8_t state_111[17] = {
+    8, 46, 95, 83, 66, 95, 48, 83, 53, 95, 18, 6, 2, 10, 7, 10, 6};
+static const uint8_t state_112[17] = {
+    8, 46, 95, 83, 66, 95, 95, 96, 53, 95, 18, 6, 2, 10, 7, 10, 6};
+static const uint8_t state_113[17] = {
+    8, 46, 95, 83, 66, 95, 95, 83, 96, 95, 18, 6, 2, 10, 7, 10, 6};
+static const uint8_t state_114[17] = {
+    8, 46, 95, 83, 66, 95, 95, 83, 53, 96, 18, 6, 2, 10, 7, 10, 6};
+static const uint8_t state_115[30] = {
+    163, 92, 70, 79, 79, 95, 8, 95, 83, 53, 95, 18, 6, 2, 10, 7, 10, 6, [23] = 0, 0, 0, 0, 0, 0, 0};
+static const uint8_t state_116[30] = {
+    163, 94, 70, 79, 79, 95, 8, 95, 83, 53, 95, 18, 6, 2, 10, 7, 10, 6, [23] = 0, 0, 0, 0, 0, 0, 0};
+static const uint8_t state_117[30] = {
+    163, 46, 70, 79, 79, 95, 66, 65, 82, 95, 8, 95, 83, 53, 95, 18, 6, 2, 10, 7, 10, 6, [23] = 0, 0, 0, 0, 0, 0, 0};
+static const uint8_t state_118[30] = {
+    163, 47, 3, 70, 79, 79, 95, 66, 65, 82, 95, 66, 65, 90, 95, 8, 95, 83, 53, 95, 18, 6, 2, 10, 7, 10, 6, 0, 0, 0};
+static const uint8_t state_119[17] = {
     160, 16, 1, 8, 95, 83, 53, 95, 18, 8, 4, 10, 7, 10, 6, 0, 0};
-static const uint8_t state_107[10] = {
-    160, 9, 0, 21, 70, 79, 79, 95, 0, 0};
-static const uint8_t state_108[9] = {
-    163, 160, 2, 1, 161, 1, 162, 2, 0};
-static const uint8_t state_109[2] = {
-    161, 1};
-static const uint8_t state_110[3] = {
-    162, 2, 0};
-static const uint8_t state_111[18] = {
-    160, 3, 1, 163, 8, 95, 83, 53, 95, 18, 8, 4, 10, 7, 10, 6, 0, 0};
-static const uint8_t state_112[5] = {
-    160, 3, 1, 163, 112};
-static const uint8_t state_113[20] = {
-    20, 9, 70, 79, 79, 95, 0, 160, 2, 1, 16, 9, 92, 95, 83, 66, 95, 160, 2, 1};
-static const uint8_t state_114[6] = {
-    16, 5, 92, 0, 160, 1};
-static const uint8_t state_115[16] = {
-    20, 15, 95, 83, 53, 95, 0, 164, 18, 6, 2, 10, 7, 10, 6, 0};
-static const uint8_t state_116[22] = {
-    20, 7, 92, 95, 83, 53, 95, 0, 8, 95, 83, 53, 95, 18, 8, 4, 10, 7, 10, 6, 0, 0};
-static const uint8_t state_117[21] = {
-    20, 12, 92, 46, 95, 83, 66, 95, 95, 83, 53, 95, 0, 20, 7, 94, 95, 83, 53, 95, 0};
-static const uint8_t state_118[7] = {
-    20, 3, 70, 79, 79, 95, 0};
-static const uint8_t state_119[11] = {
-    8, 95, 83, 53, 95, 18, 5, 1, 11, 5, 3};
 static const uint8_t state_120[10] = {
+    160, 9, 0, 21, 70, 79, 79, 95, 0, 0};
+static const uint8_t state_121[9] = {
+    163, 160, 2, 1, 161, 1, 162, 2, 0};
+static const uint8_t state_122[2] = {
+    161, 1};
+static const uint8_t state_123[3] = {
+    162, 2, 0};
+static const uint8_t state_124[18] = {
+    160, 3, 1, 163, 8, 95, 83, 53, 95, 18, 8, 4, 10, 7, 10, 6, 0, 0};
+static const uint8_t state_125[5] = {
+    160, 3, 1, 163, 112};
+static const uint8_t state_126[20] = {
+    20, 9, 70, 79, 79, 95, 0, 160, 2, 1, 16, 9, 92, 95, 83, 66, 95, 160, 2, 1};
+static const uint8_t state_127[6] = {
+    16, 5, 92, 0, 160, 1};
+static const uint8_t state_128[16] = {
+    20, 15, 95, 83, 53, 95, 0, 164, 18, 6, 2, 10, 7, 10, 6, 0};
+static const uint8_t state_129[22] = {
+    20, 7, 92, 95, 83, 53, 95, 0, 8, 95, 83, 53, 95, 18, 8, 4, 10, 7, 10, 6, 0, 0};
+static const uint8_t state_130[21] = {
+    20, 12, 92, 46, 95, 83, 66, 95, 95, 83, 53, 95, 0, 20, 7, 94, 95, 83, 53, 95, 0};
+static const uint8_t state_131[7] = {
+    20, 3, 70, 79, 79, 95, 0};
+static const uint8_t state_132[11] = {
+    8, 95, 83, 53, 95, 18, 5, 1, 11, 5, 3};
+static const uint8_t state_133[10] = {
     8, 95, 83, 53, 95, 18, 4, 1, 10, 7};
-static const uint8_t state_121[13] = {
+static const uint8_t state_134[13] = {
     8, 95, 83, 53, 95, 18, 7, 1, 12, 5, 3, 1, 0};
-static const uint8_t state_122[14] = {
+static const uint8_t state_135[14] = {
     8, 95, 83, 53, 95, 18, 8, 2, 11, 5, 3, 11, 4, 6};
-static const uint8_t state_123[12] = {
+static const uint8_t state_136[12] = {
     8, 95, 83, 53, 95, 18, 6, 2, 11, 5, 1, 0};
-static const uint8_t state_124[10] = {
+static const uint8_t state_137[10] = {
     8, 95, 83, 53, 95, 18, 4, 2, 0, 1};
-static const uint8_t state_125[14] = {
+static const uint8_t state_138[14] = {
     8, 95, 83, 53, 95, 18, 8, 2, 255, 12, 120, 86, 52, 18};
-static const uint8_t state_126[26] = {
+static const uint8_t state_139[26] = {
     8, 95, 83, 53, 95, 18, 20, 2, 14, 136, 119, 102, 85, 68, 51, 34, 17, 14, 1, 2, 3, 4, 5, 6, 7, 8};
-static const uint8_t state_127[9] = {
+static const uint8_t state_140[9] = {
     8, 95, 83, 53, 95, 18, 3, 1, 255};
-static const uint8_t state_128[19] = {
+static const uint8_t state_141[19] = {
     8, 95, 83, 53, 95, 18, 13, 4, 10, 7, 10, 6, 18, 3, 1, 1, 13, 120, 0};
-static const uint8_t state_129[8] = {
+static const uint8_t state_142[8] = {
     8, 95, 83, 53, 95, 18, 2, 0};
-static const uint8_t state_130[14] = {
+static const uint8_t state_143[14] = {
     8, 95, 83, 53, 95, 18, 8, 2, 70, 79, 79, 95, 10, 7};
-static const uint8_t state_131[14] = {
+static const uint8_t state_144[14] = {
     8, 95, 83, 53, 95, 18, 8, 2, 10, 7, 70, 79, 79, 95};
-static const uint8_t state_132[14] = {
+static const uint8_t state_145[14] = {
     8, 95, 83, 53, 95, 18, 8, 1, 10, 7, 70, 79, 79, 95};
-static const uint8_t state_133[14] = {
+static const uint8_t state_146[14] = {
     8, 95, 83, 53, 95, 18, 8, 2, 18, 3, 1, 1, 10, 2};
-static const uint8_t state_134[12] = {
+static const uint8_t state_147[12] = {
     8, 95, 83, 53, 95, 18, 6, 4, 10, 7, 10, 6};
-static const uint8_t state_135[16] = {
+static const uint8_t state_148[16] = {
     8, 95, 83, 53, 95, 18, 4, 4, 10, 7, 8, 70, 79, 79, 95, 1};
-static const uint8_t state_136[14] = {
+static const uint8_t state_149[14] = {
     8, 95, 83, 53, 95, 18, 2, 4, 8, 70, 79, 79, 95, 1};
-static const uint8_t state_137[13] = {
-    8, 95, 83, 53, 95, 18, 1, 8, 70, 79, 79, 95, 1};
-static const uint8_t state_138[11] = {
-    8, 95, 83, 53, 95, 18, 4, 2, 11, 5, 3};
-static const uint8_t state_139[7] = {
-    8, 95, 83, 53, 95, 10, 7};
-static const uint8_t state_140[7] = {
-    8, 95, 83, 53, 95, 19, 7};
-static const uint8_t state_141[7] = {
-    8, 95, 83, 53, 95, 95, 7};
-static const uint8_t state_142[19] = {
-    8, 95, 83, 53, 95, 10, 7, 8, 95, 83, 53, 95, 18, 6, 2, 10, 7, 10, 6};
-static const uint8_t state_143[23] = {
-    16, 10, 92, 0, 8, 95, 83, 53, 95, 10, 7, 8, 95, 83, 53, 95, 18, 6, 2, 10, 7, 10, 6};
-static const uint8_t state_144[10] = {
-    8, 95, 83, 53, 95, 70, 79, 79, 95, 0};
-static const uint8_t state_145[10] = {
-    8, 95, 83, 53, 95, 19, 4, 1, 1, 1};
-static const uint8_t state_146[13] = {
-    8, 95, 83, 53, 95, 18, 71, 0, 2, 10, 7, 10, 6};
-static const uint8_t state_147[13] = {
-    8, 95, 83, 53, 95, 18, 119, 0, 2, 10, 7, 10, 6};
-static const uint8_t state_148[13] = {
-    8, 95, 83, 53, 95, 18, 70, 0, 2, 10, 7, 10, 6};
-static const uint8_t state_149[13] = {
-    8, 95, 83, 53, 95, 18, 72, 0, 2, 10, 7, 10, 6};
 static const uint8_t state_150[13] = {
+    8, 95, 83, 53, 95, 18, 1, 8, 70, 79, 79, 95, 1};
+static const uint8_t state_151[11] = {
+    8, 95, 83, 53, 95, 18, 4, 2, 11, 5, 3};
+static const uint8_t state_152[7] = {
+    8, 95, 83, 53, 95, 10, 7};
+static const uint8_t state_153[7] = {
+    8, 95, 83, 53, 95, 19, 7};
+static const uint8_t state_154[7] = {
+    8, 95, 83, 53, 95, 95, 7};
+static const uint8_t state_155[19] = {
+    8, 95, 83, 53, 95, 10, 7, 8, 95, 83, 53, 95, 18, 6, 2, 10, 7, 10, 6};
+static const uint8_t state_156[23] = {
+    16, 10, 92, 0, 8, 95, 83, 53, 95, 10, 7, 8, 95, 83, 53, 95, 18, 6, 2, 10, 7, 10, 6};
+static const uint8_t state_157[10] = {
+    8, 95, 83, 53, 95, 70, 79, 79, 95, 0};
+static const uint8_t state_158[10] = {
+    8, 95, 83, 53, 95, 19, 4, 1, 1, 1};
+static const uint8_t state_159[13] = {
+    8, 95, 83, 53, 95, 18, 71, 0, 2, 10, 7, 10, 6};
+static const uint8_t state_160[13] = {
+    8, 95, 83, 53, 95, 18, 119, 0, 2, 10, 7, 10, 6};
+static const uint8_t state_161[13] = {
+    8, 95, 83, 53, 95, 18, 70, 0, 2, 10, 7, 10, 6};
+static const uint8_t state_162[13] = {
+    8, 95, 83, 53, 95, 18, 72, 0, 2, 10, 7, 10, 6};
+static const uint8_t state_163[13] = {
     8, 95, 83, 53, 95, 18, 71, 1, 2, 10, 7, 10, 6};
-static const uint8_t state_151[29] = {
+static const uint8_t state_164[29] = {
     8, 95, 83, 52, 95, 18, 136, 0, 0, 2, 10, 7, 10, 6, 8, 95, 83, 53, 95, 18, 201, 0, 0, 0, 2, 10, 5, 10, 4};
-static const uint8_t state_152[83] = {
+static const uint8_t state_165[83] = {
     8, 70, 79, 79, 95, 17, 63, 10, 60, [62] = 0, 0, 0, 0, 0, 0, 0, 8, 95, 83, 53, 95, 18, 8, 4, 10, 7, 10, 6, 0, 0};
-static const uint8_t state_153[84] = {
+static const uint8_t state_166[84] = {
     8, 70, 79, 79, 95, 17, 64, 4, 10, 60, [63] = 0, 0, 0, 0, 0, 0, 0, 8, 95, 83, 53, 95, 18, 8, 4, 10, 7, 10, 6, 0, 0};
-static const uint8_t state_154[4132] = {
+static const uint8_t state_167[4132] = {
     8, 70, 79, 79, 95, 17, 128, 1, 1, 11, 10, 16, [4111] = 0, 0, 0, 0, 0, 0, 0, 8, 95, 83, 53, 95, 18, 8, 4, 10, 7, 10,
     6, 0, 0};
-static const uint8_t state_155[2] = {
+static const uint8_t state_168[2] = {
     17, 0};
-static const uint8_t state_156[2] = {
+static const uint8_t state_169[2] = {
     20, 0};
-static const uint8_t state_157[10] = {
+static const uint8_t state_170[10] = {
     20, 201, 0, 0, 1, 70, 79, 79, 95, 0};
-static const uint8_t state_158[8] = {
+static const uint8_t state_171[8] = {
     20, 65, 0, 70, 79, 79, 95, 0};
-static const uint8_t state_159[8] = {
+static const uint8_t state_172[8] = {
     20, 66, 0, 70, 79, 79, 95, 0};
-static const uint8_t state_160[26] = {
-    20, 7, 95, 80, 84, 83, 1, 163, 16, 17, 92, 0, 8, 95, 83, 53, 95, 18, 8, 4, 10, 7, 10, 6, 0, 0};
-static const uint8_t state_161[26] = {
-    235, 7, 95, 80, 84, 83, 1, 163, 16, 17, 92, 0, 8, 95, 83, 53, 95, 18, 8, 4, 10, 7, 10, 6, 0, 0};
-static const uint8_t state_162[26] = {
-    20, 248, 95, 80, 84, 83, 1, 163, 16, 17, 92, 0, 8, 95, 83, 53, 95, 18, 8, 4, 10, 7, 10, 6, 0, 0};
-static const uint8_t state_163[26] = {
-    20, 7, 160, 80, 84, 83, 1, 163, 16, 17, 92, 0, 8, 95, 83, 53, 95, 18, 8, 4, 10, 7, 10, 6, 0, 0};
-static const uint8_t state_164[26] = {
-    20, 7, 95, 175, 84, 83, 1, 163, 16, 17, 92, 0, 8, 95, 83, 53, 95, 18, 8, 4, 10, 7, 10, 6, 0, 0};
-static const uint8_t state_165[26] = {
-    20, 7, 95, 80, 171, 83, 1, 163, 16, 17, 92, 0, 8, 95, 83, 53, 95, 18, 8, 4, 10, 7, 10, 6, 0, 0};
-static const uint8_t state_166[26] = {
-    20, 7, 95, 80, 84, 172, 1, 163, 16, 17, 92, 0, 8, 95, 83, 53, 95, 18, 8, 4, 10, 7, 10, 6, 0, 0};
-static const uint8_t state_167[26] = {
-    20, 7, 95, 80, 84, 83, 254, 163, 16, 17, 92, 0, 8, 95, 83, 53, 95, 18, 8, 4, 10, 7, 10, 6, 0, 0};
-static const uint8_t state_168[26] = {
-    20, 7, 95, 80, 84, 83, 1, 92, 16, 17, 92, 0, 8, 95, 83, 53, 95, 18, 8, 4, 10, 7, 10, 6, 0, 0};
-static const uint8_t state_169[26] = {
-    20, 7, 95, 80, 84, 83, 1, 163, 239, 17, 92, 0, 8, 95, 83, 53, 95, 18, 8, 4, 10, 7, 10, 6, 0, 0};
-static const uint8_t state_170[26] = {
-    20, 7, 95, 80, 84, 83, 1, 163, 16, 238, 92, 0, 8, 95, 83, 53, 95, 18, 8, 4, 10, 7, 10, 6, 0, 0};
-static const uint8_t state_171[26] = {
-    20, 7, 95, 80, 84, 83, 1, 163, 16, 17, 163, 0, 8, 95, 83, 53, 95, 18, 8, 4, 10, 7, 10, 6, 0, 0};
-static const uint8_t state_172[26] = {
-    20, 7, 95, 80, 84, 83, 1, 163, 16, 17, 92, 255, 8, 95, 83, 53, 95, 18, 8, 4, 10, 7, 10, 6, 0, 0};
 static const uint8_t state_173[26] = {
-    20, 7, 95, 80, 84, 83, 1, 163, 16, 17, 92, 0, 247, 95, 83, 53, 95, 18, 8, 4, 10, 7, 10, 6, 0, 0};
+    20, 7, 95, 80, 84, 83, 1, 163, 16, 17, 92, 0, 8, 95, 83, 53, 95, 18, 8, 4, 10, 7, 10, 6, 0, 0};
 static const uint8_t state_174[26] = {
-    20, 7, 95, 80, 84, 83, 1, 163, 16, 17, 92, 0, 8, 160, 83, 53, 95, 18, 8, 4, 10, 7, 10, 6, 0, 0};
+    235, 7, 95, 80, 84, 83, 1, 163, 16, 17, 92, 0, 8, 95, 83, 53, 95, 18, 8, 4, 10, 7, 10, 6, 0, 0};
 static const uint8_t state_175[26] = {
-    20, 7, 95, 80, 84, 83, 1, 163, 16, 17, 92, 0, 8, 95, 172, 53, 95, 18, 8, 4, 10, 7, 10, 6, 0, 0};
+    20, 248, 95, 80, 84, 83, 1, 163, 16, 17, 92, 0, 8, 95, 83, 53, 95, 18, 8, 4, 10, 7, 10, 6, 0, 0};
 static const uint8_t state_176[26] = {
-    20, 7, 95, 80, 84, 83, 1, 163, 16, 17, 92, 0, 8, 95, 83, 202, 95, 18, 8, 4, 10, 7, 10, 6, 0, 0};
+    20, 7, 160, 80, 84, 83, 1, 163, 16, 17, 92, 0, 8, 95, 83, 53, 95, 18, 8, 4, 10, 7, 10, 6, 0, 0};
 static const uint8_t state_177[26] = {
-    20, 7, 95, 80, 84, 83, 1, 163, 16, 17, 92, 0, 8, 95, 83, 53, 160, 18, 8, 4, 10, 7, 10, 6, 0, 0};
+    20, 7, 95, 175, 84, 83, 1, 163, 16, 17, 92, 0, 8, 95, 83, 53, 95, 18, 8, 4, 10, 7, 10, 6, 0, 0};
 static const uint8_t state_178[26] = {
-    20, 7, 95, 80, 84, 83, 1, 163, 16, 17, 92, 0, 8, 95, 83, 53, 95, 237, 8, 4, 10, 7, 10, 6, 0, 0};
+    20, 7, 95, 80, 171, 83, 1, 163, 16, 17, 92, 0, 8, 95, 83, 53, 95, 18, 8, 4, 10, 7, 10, 6, 0, 0};
 static const uint8_t state_179[26] = {
-    20, 7, 95, 80, 84, 83, 1, 163, 16, 17, 92, 0, 8, 95, 83, 53, 95, 18, 247, 4, 10, 7, 10, 6, 0, 0};
+    20, 7, 95, 80, 84, 172, 1, 163, 16, 17, 92, 0, 8, 95, 83, 53, 95, 18, 8, 4, 10, 7, 10, 6, 0, 0};
 static const uint8_t state_180[26] = {
-    20, 7, 95, 80, 84, 83, 1, 163, 16, 17, 92, 0, 8, 95, 83, 53, 95, 18, 8, 251, 10, 7, 10, 6, 0, 0};
+    20, 7, 95, 80, 84, 83, 254, 163, 16, 17, 92, 0, 8, 95, 83, 53, 95, 18, 8, 4, 10, 7, 10, 6, 0, 0};
 static const uint8_t state_181[26] = {
-    20, 7, 95, 80, 84, 83, 1, 163, 16, 17, 92, 0, 8, 95, 83, 53, 95, 18, 8, 4, 245, 7, 10, 6, 0, 0};
+    20, 7, 95, 80, 84, 83, 1, 92, 16, 17, 92, 0, 8, 95, 83, 53, 95, 18, 8, 4, 10, 7, 10, 6, 0, 0};
 static const uint8_t state_182[26] = {
-    20, 7, 95, 80, 84, 83, 1, 163, 16, 17, 92, 0, 8, 95, 83, 53, 95, 18, 8, 4, 10, 248, 10, 6, 0, 0};
+    20, 7, 95, 80, 84, 83, 1, 163, 239, 17, 92, 0, 8, 95, 83, 53, 95, 18, 8, 4, 10, 7, 10, 6, 0, 0};
 static const uint8_t state_183[26] = {
-    20, 7, 95, 80, 84, 83, 1, 163, 16, 17, 92, 0, 8, 95, 83, 53, 95, 18, 8, 4, 10, 7, 245, 6, 0, 0};
+    20, 7, 95, 80, 84, 83, 1, 163, 16, 238, 92, 0, 8, 95, 83, 53, 95, 18, 8, 4, 10, 7, 10, 6, 0, 0};
 static const uint8_t state_184[26] = {
-    20, 7, 95, 80, 84, 83, 1, 163, 16, 17, 92, 0, 8, 95, 83, 53, 95, 18, 8, 4, 10, 7, 10, 249, 0, 0};
+    20, 7, 95, 80, 84, 83, 1, 163, 16, 17, 163, 0, 8, 95, 83, 53, 95, 18, 8, 4, 10, 7, 10, 6, 0, 0};
 static const uint8_t state_185[26] = {
-    20, 7, 95, 80, 84, 83, 1, 163, 16, 17, 92, 0, 8, 95, 83, 53, 95, 18, 8, 4, 10, 7, 10, 6, 255, 0};
+    20, 7, 95, 80, 84, 83, 1, 163, 16, 17, 92, 255, 8, 95, 83, 53, 95, 18, 8, 4, 10, 7, 10, 6, 0, 0};
 static const uint8_t state_186[26] = {
+    20, 7, 95, 80, 84, 83, 1, 163, 16, 17, 92, 0, 247, 95, 83, 53, 95, 18, 8, 4, 10, 7, 10, 6, 0, 0};
+static const uint8_t state_187[26] = {
+    20, 7, 95, 80, 84, 83, 1, 163, 16, 17, 92, 0, 8, 160, 83, 53, 95, 18, 8, 4, 10, 7, 10, 6, 0, 0};
+static const uint8_t state_188[26] = {
+    20, 7, 95, 80, 84, 83, 1, 163, 16, 17, 92, 0, 8, 95, 172, 53, 95, 18, 8, 4, 10, 7, 10, 6, 0, 0};
+static const uint8_t state_189[26] = {
+    20, 7, 95, 80, 84, 83, 1, 163, 16, 17, 92, 0, 8, 95, 83, 202, 95, 18, 8, 4, 10, 7, 10, 6, 0, 0};
+static const uint8_t state_190[26] = {
+    20, 7, 95, 80, 84, 83, 1, 163, 16, 17, 92, 0, 8, 95, 83, 53, 160, 18, 8, 4, 10, 7, 10, 6, 0, 0};
+static const uint8_t state_191[26] = {
+    20, 7, 95, 80, 84, 83, 1, 163, 16, 17, 92, 0, 8, 95, 83, 53, 95, 237, 8, 4, 10, 7, 10, 6, 0, 0};
+static const uint8_t state_192[26] = {
+    20, 7, 95, 80, 84, 83, 1, 163, 16, 17, 92, 0, 8, 95, 83, 53, 95, 18, 247, 4, 10, 7, 10, 6, 0, 0};
+static const uint8_t state_193[26] = {
+    20, 7, 95, 80, 84, 83, 1, 163, 16, 17, 92, 0, 8, 95, 83, 53, 95, 18, 8, 251, 10, 7, 10, 6, 0, 0};
+static const uint8_t state_194[26] = {
+    20, 7, 95, 80, 84, 83, 1, 163, 16, 17, 92, 0, 8, 95, 83, 53, 95, 18, 8, 4, 245, 7, 10, 6, 0, 0};
+static const uint8_t state_195[26] = {
+    20, 7, 95, 80, 84, 83, 1, 163, 16, 17, 92, 0, 8, 95, 83, 53, 95, 18, 8, 4, 10, 248, 10, 6, 0, 0};
+static const uint8_t state_196[26] = {
+    20, 7, 95, 80, 84, 83, 1, 163, 16, 17, 92, 0, 8, 95, 83, 53, 95, 18, 8, 4, 10, 7, 245, 6, 0, 0};
+static const uint8_t state_197[26] = {
+    20, 7, 95, 80, 84, 83, 1, 163, 16, 17, 92, 0, 8, 95, 83, 53, 95, 18, 8, 4, 10, 7, 10, 249, 0, 0};
+static const uint8_t state_198[26] = {
+    20, 7, 95, 80, 84, 83, 1, 163, 16, 17, 92, 0, 8, 95, 83, 53, 95, 18, 8, 4, 10, 7, 10, 6, 255, 0};
+static const uint8_t state_199[26] = {
     20, 7, 95, 80, 84, 83, 1, 163, 16, 17, 92, 0, 8, 95, 83, 53, 95, 18, 8, 4, 10, 7, 10, 6, 0, 255};
-static const uint8_t state_187[79] = {
+static const uint8_t state_200[79] = {
     91, 130, 51, 92, 46, 95, 83, 66, 95, 68, 69, 86, 48, 8, 95, 72, 73, 68, 13, 65, 66, 67, 68, 48, 48, 48, 49, 0, 8,
     95, 83, 53, 95, 18, 6, 2, 10, 1, 10, 2, 8, 92, 95, 83, 52, 95, 18, 6, 2, 10, 3, 10, 4, 16, 18, 92, 95, 83, 66, 95,
     8, 95, 83, 51, 95, 18, 6, 2, 10, 1, 10, 2, 8, 95, 83, 49, 95, 10, 5};
-static const uint8_t state_188[61] = {
+static const uint8_t state_201[61] = {
     160, 23, 0, 21, 92, 46, 95, 83, 66, 95, 80, 67, 73, 48, 6, 0, 21, 92, 70, 79, 79, 95, 1, 0, 16, 23, 92, 46, 95, 83,
     66, 95, 80, 67, 73, 48, 8, 95, 83, 53, 95, 18, 6, 2, 10, 9, 10, 9, 8, 92, 95, 83, 53, 95, 18, 6, 2, 10, 5, 10, 4};
-static const uint8_t state_189[65] = {
+static const uint8_t state_202[65] = {
     8, 70, 76, 65, 71, 1, 160, 17, 70, 76, 65, 71, 8, 95, 83, 51, 95, 18, 6, 2, 10, 5, 10, 5, 161, 13, 8, 95, 83, 52,
     95, 18, 6, 2, 10, 6, 10, 6, 162, 15, 149, 70, 76, 65, 71, 10, 1, 112, 10, 1, 70, 76, 65, 71, 8, 95, 83, 53, 95, 18,
     5, 1, 11, 5, 3};
-static const uint8_t state_190[140] = {
+static const uint8_t state_203[140] = {
     20, 9, 95, 80, 84, 83, 1, 112, 104, 96, 91, 1, 77, 84, 88, 95, 3, 91, 2, 69, 86, 84, 95, 6, 77, 84, 88, 95, 77, 84,
     89, 95, 8, 83, 84, 82, 95, 13, 97, 32, 115, 116, 114, 105, 110, 103, 32, 95, 83, 53, 95, 0, 8, 66, 85, 70, 95, 17,
     11, 10, 8, 8, 95, 83, 53, 95, 18, 4, 2, 8, 66, 73, 71, 95, 14, 136, 119, 102, 85, 68, 51, 34, 17, 91, 131, 11, 67,
     80, 85, 48, 1, 16, 4, 0, 0, 6, 91, 132, 15, 80, 87, 82, 48, 0, 0, 0, 20, 6, 95, 79, 78, 95, 0, 91, 133, 13, 84, 90,
     48, 95, 8, 95, 84, 77, 80, 11, 184, 11, 8, 95, 83, 53, 95, 18, 6, 4, 0, 1, 0, 0};
-static const uint8_t state_191[81] = {
+static const uint8_t state_204[81] = {
     8, 80, 75, 71, 95, 18, 31, 2, 18, 24, 3, 13, 95, 83, 53, 0, 10, 1, 18, 14, 2, 12, 68, 51, 34, 17, 17, 6, 10, 3, 1,
     2, 3, 70, 79, 79, 95, 8, 70, 79, 79, 95, 10, 1, 8, 95, 83, 51, 95, 18, 11, 2, 18, 6, 2, 10, 1, 10, 1, 10, 2, 8, 95,
     83, 53, 95, 18, 14, 4, 10, 5, 10, 10, 18, 4, 1, 10, 1, 13, 120, 0};
-static const uint8_t state_192[143] = {
+static const uint8_t state_205[143] = {
     91, 128, 68, 66, 71, 95, 1, 11, 2, 4, 1, 91, 129, 11, 68, 66, 71, 95, 1, 68, 66, 71, 66, 8, 91, 128, 71, 78, 86, 95,
     0, 12, 0, 0, 240, 127, 11, 0, 16, 91, 129, 21, 71, 78, 86, 95, 0, 73, 68, 88, 95, 8, 68, 65, 84, 95, 8, 66, 78, 75,
     95, 8, 91, 134, 15, 73, 68, 88, 95, 68, 65, 84, 95, 1, 82, 69, 71, 48, 8, 91, 135, 17, 68, 66, 71, 95, 66, 78, 75,
     95, 10, 1, 1, 82, 69, 71, 49, 8, 91, 136, 84, 66, 76, 95, 13, 70, 65, 67, 80, 0, 13, 0, 13, 0, 91, 128, 80, 67, 73,
     95, 128, 0, 11, 0, 1, 8, 95, 83, 53, 95, 18, 12, 2, 14, 255, 255, 255, 255, 255, 255, 255, 255, 255};
-static const uint8_t state_193[81] = {
+static const uint8_t state_206[81] = {
     16, 19, 92, 95, 83, 66, 95, 91, 130, 11, 80, 67, 73, 48, 8, 95, 65, 68, 82, 0, 16, 26, 92, 0, 8, 70, 79, 79, 95, 10,
     3, 8, 95, 83, 51, 95, 18, 10, 4, 10, 1, 10, 1, 10, 0, 10, 0, 16, 20, 92, 0, 8, 92, 95, 83, 53, 95, 18, 10, 4, 10, 7,
     10, 6, 10, 0, 10, 0, 8, 95, 83, 52, 95, 18, 7, 2, 11, 52, 18, 10, 255};
-static const uint8_t state_194[48] = {
+static const uint8_t state_207[48] = {
     8, 66, 65, 83, 69, 11, 0, 4, 91, 128, 82, 71, 78, 95, 1, 114, 66, 65, 83, 69, 10, 16, 0, 10, 16, 138, 17, 3, 10, 8,
     10, 0, 70, 76, 68, 95, 8, 95, 83, 53, 95, 18, 6, 2, 10, 3, 10, 2};
 
@@ -590,107 +616,108 @@ static const struct state_row {
     {state_103, 12, 5, ZACPI_AML_INVALID, {0, 0}},
     {state_104, 12, 5, ZACPI_SLEEP_STATE_ABSENT, {0, 0}},
     {state_105, 12, 5, ZACPI_SLEEP_STATE_ABSENT, {0, 0}},
-    {state_106, 17, 5, ZACPI_SLEEP_STATE_NOT_SEEN, {0, 0}},
-    {state_106, 17, 4, ZACPI_SLEEP_STATE_NOT_SEEN, {0, 0}},
-    {state_107, 10, 5, ZACPI_SLEEP_STATE_NOT_SEEN, {0, 0}},
-    {state_108, 9, 5, ZACPI_SLEEP_STATE_NOT_SEEN, {0, 0}},
-    {state_109, 2, 5, ZACPI_SLEEP_STATE_NOT_SEEN, {0, 0}},
-    {state_110, 3, 5, ZACPI_SLEEP_STATE_NOT_SEEN, {0, 0}},
-    {state_111, 18, 5, ZACPI_OK, {7, 6}},
-    {state_111, 18, 4, ZACPI_SLEEP_STATE_NOT_SEEN, {0, 0}},
-    {state_112, 5, 5, ZACPI_SLEEP_STATE_NOT_SEEN, {0, 0}},
-    {state_113, 20, 5, ZACPI_SLEEP_STATE_ABSENT, {0, 0}},
-    {state_114, 6, 5, ZACPI_SLEEP_STATE_NOT_SEEN, {0, 0}},
-    {state_115, 16, 5, ZACPI_SLEEP_STATE_NOT_SEEN, {0, 0}},
-    {state_115, 16, 4, ZACPI_SLEEP_STATE_ABSENT, {0, 0}},
-    {state_116, 22, 5, ZACPI_OK, {7, 6}},
-    {state_116, 8, 5, ZACPI_SLEEP_STATE_NOT_SEEN, {0, 0}},
-    {state_117, 21, 5, ZACPI_SLEEP_STATE_ABSENT, {0, 0}},
-    {state_118, 7, 5, ZACPI_AML_INVALID, {0, 0}},
-    {state_119, 11, 5, ZACPI_OK, {5, 3}},
-    {state_120, 10, 5, ZACPI_OK, {7, 0}},
-    {state_121, 13, 5, ZACPI_SLEEP_TYPE_TOO_HIGH, {0, 0}},
-    {state_122, 14, 5, ZACPI_SLEEP_TYPE_TOO_HIGH, {0, 0}},
-    {state_123, 12, 5, ZACPI_SLEEP_TYPE_TOO_HIGH, {0, 0}},
-    {state_124, 10, 5, ZACPI_OK, {0, 1}},
-    {state_125, 14, 5, ZACPI_SLEEP_TYPE_TOO_HIGH, {0, 0}},
-    {state_126, 26, 5, ZACPI_SLEEP_TYPE_TOO_HIGH, {0, 0}},
-    {state_127, 9, 5, ZACPI_SLEEP_TYPE_TOO_HIGH, {0, 0}},
-    {state_128, 19, 5, ZACPI_OK, {7, 6}},
+    {state_106, 17, 5, ZACPI_SLEEP_STATE_ABSENT, {0, 0}},
+    {state_107, 17, 5, ZACPI_AML_INVALID, {0, 0}},
+    {state_108, 17, 5, ZACPI_AML_INVALID, {0, 0}},
+    {state_109, 17, 5, ZACPI_AML_INVALID, {0, 0}},
+    {state_110, 17, 5, ZACPI_AML_INVALID, {0, 0}},
+    {state_111, 17, 5, ZACPI_AML_INVALID, {0, 0}},
+    {state_112, 17, 5, ZACPI_AML_INVALID, {0, 0}},
+    {state_113, 17, 5, ZACPI_AML_INVALID, {0, 0}},
+    {state_114, 17, 5, ZACPI_AML_INVALID, {0, 0}},
+    {state_106, 17, 5, ZACPI_SLEEP_STATE_ABSENT, {0, 0}},
+    {state_115, 30, 5, ZACPI_SLEEP_STATE_NOT_SEEN, {0, 0}},
+    {state_116, 30, 5, ZACPI_SLEEP_STATE_NOT_SEEN, {0, 0}},
+    {state_117, 30, 5, ZACPI_SLEEP_STATE_NOT_SEEN, {0, 0}},
+    {state_118, 27, 5, ZACPI_SLEEP_STATE_NOT_SEEN, {0, 0}},
+    {state_119, 17, 5, ZACPI_SLEEP_STATE_NOT_SEEN, {0, 0}},
+    {state_119, 17, 4, ZACPI_SLEEP_STATE_NOT_SEEN, {0, 0}},
+    {state_120, 10, 5, ZACPI_SLEEP_STATE_NOT_SEEN, {0, 0}},
+    {state_121, 9, 5, ZACPI_SLEEP_STATE_NOT_SEEN, {0, 0}},
+    {state_122, 2, 5, ZACPI_SLEEP_STATE_NOT_SEEN, {0, 0}},
+    {state_123, 3, 5, ZACPI_SLEEP_STATE_NOT_SEEN, {0, 0}},
+    {state_124, 18, 5, ZACPI_OK, {7, 6}},
+    {state_124, 18, 4, ZACPI_SLEEP_STATE_NOT_SEEN, {0, 0}},
+    {state_125, 5, 5, ZACPI_SLEEP_STATE_NOT_SEEN, {0, 0}},
+    {state_126, 20, 5, ZACPI_SLEEP_STATE_ABSENT, {0, 0}},
+    {state_127, 6, 5, ZACPI_SLEEP_STATE_NOT_SEEN, {0, 0}},
+    {state_128, 16, 5, ZACPI_SLEEP_STATE_NOT_SEEN, {0, 0}},
+    {state_128, 16, 4, ZACPI_SLEEP_STATE_ABSENT, {0, 0}},
+    {state_129, 22, 5, ZACPI_OK, {7, 6}},
     {state_129, 8, 5, ZACPI_SLEEP_STATE_NOT_SEEN, {0, 0}},
-    {state_130, 14, 5, ZACPI_SLEEP_STATE_NOT_SEEN, {0, 0}},
-    {state_131, 14, 5, ZACPI_SLEEP_STATE_NOT_SEEN, {0, 0}},
-    {state_132, 14, 5, ZACPI_OK, {7, 0}},
-    {state_133, 14, 5, ZACPI_SLEEP_STATE_NOT_SEEN, {0, 0}},
-    {state_134, 12, 5, ZACPI_OK, {7, 6}},
-    {state_135, 16, 5, ZACPI_SLEEP_STATE_NOT_SEEN, {0, 0}},
-    {state_136, 14, 5, ZACPI_SLEEP_STATE_NOT_SEEN, {0, 0}},
-    {state_137, 13, 5, ZACPI_AML_INVALID, {0, 0}},
-    {state_138, 11, 5, ZACPI_AML_INVALID, {0, 0}},
-    {state_139, 7, 5, ZACPI_SLEEP_STATE_NOT_SEEN, {0, 0}},
-    {state_140, 7, 5, ZACPI_AML_INVALID, {0, 0}},
-    {state_141, 7, 5, ZACPI_AML_INVALID, {0, 0}},
-    {state_142, 19, 5, ZACPI_SLEEP_STATE_NOT_SEEN, {0, 0}},
-    {state_142, 19, 4, ZACPI_SLEEP_STATE_ABSENT, {0, 0}},
-    {state_143, 23, 5, ZACPI_OK, {7, 6}},
-    {state_143, 11, 5, ZACPI_SLEEP_STATE_NOT_SEEN, {0, 0}},
-    {state_144, 9, 5, ZACPI_SLEEP_STATE_NOT_SEEN, {0, 0}},
-    {state_145, 10, 5, ZACPI_SLEEP_STATE_NOT_SEEN, {0, 0}},
-    {state_146, 13, 5, ZACPI_OK, {7, 6}},
-    {state_147, 13, 5, ZACPI_OK, {7, 6}},
-    {state_148, 13, 5, ZACPI_AML_INVALID, {0, 0}},
-    {state_149, 13, 5, ZACPI_AML_INVALID, {0, 0}},
+    {state_130, 21, 5, ZACPI_SLEEP_STATE_ABSENT, {0, 0}},
+    {state_131, 7, 5, ZACPI_AML_INVALID, {0, 0}},
+    {state_132, 11, 5, ZACPI_OK, {5, 3}},
+    {state_133, 10, 5, ZACPI_OK, {7, 0}},
+    {state_134, 13, 5, ZACPI_SLEEP_TYPE_TOO_HIGH, {0, 0}},
+    {state_135, 14, 5, ZACPI_SLEEP_TYPE_TOO_HIGH, {0, 0}},
+    {state_136, 12, 5, ZACPI_SLEEP_TYPE_TOO_HIGH, {0, 0}},
+    {state_137, 10, 5, ZACPI_OK, {0, 1}},
+    {state_138, 14, 5, ZACPI_SLEEP_TYPE_TOO_HIGH, {0, 0}},
+    {state_139, 26, 5, ZACPI_SLEEP_TYPE_TOO_HIGH, {0, 0}},
+    {state_140, 9, 5, ZACPI_SLEEP_TYPE_TOO_HIGH, {0, 0}},
+    {state_141, 19, 5, ZACPI_OK, {7, 6}},
+    {state_142, 8, 5, ZACPI_SLEEP_STATE_NOT_SEEN, {0, 0}},
+    {state_143, 14, 5, ZACPI_SLEEP_STATE_NOT_SEEN, {0, 0}},
+    {state_144, 14, 5, ZACPI_SLEEP_STATE_NOT_SEEN, {0, 0}},
+    {state_145, 14, 5, ZACPI_OK, {7, 0}},
+    {state_146, 14, 5, ZACPI_SLEEP_STATE_NOT_SEEN, {0, 0}},
+    {state_147, 12, 5, ZACPI_OK, {7, 6}},
+    {state_148, 16, 5, ZACPI_SLEEP_STATE_NOT_SEEN, {0, 0}},
+    {state_149, 14, 5, ZACPI_SLEEP_STATE_NOT_SEEN, {0, 0}},
     {state_150, 13, 5, ZACPI_AML_INVALID, {0, 0}},
-    {state_151, 29, 4, ZACPI_OK, {7, 6}},
-    {state_151, 29, 5, ZACPI_OK, {5, 4}},
-    {state_152, 83, 5, ZACPI_OK, {7, 6}},
-    {state_153, 84, 5, ZACPI_OK, {7, 6}},
-    {state_154, 4132, 5, ZACPI_OK, {7, 6}},
-    {state_155, 2, 5, ZACPI_AML_INVALID, {0, 0}},
-    {state_156, 2, 5, ZACPI_AML_INVALID, {0, 0}},
-    {state_157, 10, 5, ZACPI_AML_INVALID, {0, 0}},
-    {state_158, 8, 5, ZACPI_AML_INVALID, {0, 0}},
-    {state_159, 8, 5, ZACPI_AML_INVALID, {0, 0}},
-    {state_160, 26, 5, ZACPI_OK, {7, 6}},
-    {state_160, 0, 5, ZACPI_SLEEP_STATE_ABSENT, {0, 0}},
-    {state_160, 1, 5, ZACPI_AML_INVALID, {0, 0}},
-    {state_160, 2, 5, ZACPI_AML_INVALID, {0, 0}},
-    {state_160, 3, 5, ZACPI_AML_INVALID, {0, 0}},
-    {state_160, 4, 5, ZACPI_AML_INVALID, {0, 0}},
-    {state_160, 5, 5, ZACPI_AML_INVALID, {0, 0}},
-    {state_160, 6, 5, ZACPI_AML_INVALID, {0, 0}},
-    {state_160, 7, 5, ZACPI_AML_INVALID, {0, 0}},
-    {state_160, 8, 5, ZACPI_SLEEP_STATE_ABSENT, {0, 0}},
-    {state_160, 9, 5, ZACPI_AML_INVALID, {0, 0}},
-    {state_160, 10, 5, ZACPI_AML_INVALID, {0, 0}},
-    {state_160, 11, 5, ZACPI_AML_INVALID, {0, 0}},
-    {state_160, 12, 5, ZACPI_AML_INVALID, {0, 0}},
-    {state_160, 13, 5, ZACPI_AML_INVALID, {0, 0}},
-    {state_160, 14, 5, ZACPI_AML_INVALID, {0, 0}},
-    {state_160, 15, 5, ZACPI_AML_INVALID, {0, 0}},
-    {state_160, 16, 5, ZACPI_AML_INVALID, {0, 0}},
-    {state_160, 17, 5, ZACPI_AML_INVALID, {0, 0}},
-    {state_160, 18, 5, ZACPI_AML_INVALID, {0, 0}},
-    {state_160, 19, 5, ZACPI_AML_INVALID, {0, 0}},
-    {state_160, 20, 5, ZACPI_AML_INVALID, {0, 0}},
-    {state_160, 21, 5, ZACPI_AML_INVALID, {0, 0}},
-    {state_160, 22, 5, ZACPI_AML_INVALID, {0, 0}},
-    {state_160, 23, 5, ZACPI_AML_INVALID, {0, 0}},
-    {state_160, 24, 5, ZACPI_AML_INVALID, {0, 0}},
-    {state_160, 25, 5, ZACPI_AML_INVALID, {0, 0}},
-    {state_161, 26, 5, ZACPI_AML_INVALID, {0, 0}},
-    {state_162, 26, 5, ZACPI_AML_INVALID, {0, 0}},
-    {state_163, 26, 5, ZACPI_AML_INVALID, {0, 0}},
-    {state_164, 26, 5, ZACPI_AML_INVALID, {0, 0}},
-    {state_165, 26, 5, ZACPI_AML_INVALID, {0, 0}},
-    {state_166, 26, 5, ZACPI_AML_INVALID, {0, 0}},
-    {state_167, 26, 5, ZACPI_OK, {7, 6}},
-    {state_168, 26, 5, ZACPI_OK, {7, 6}},
-    {state_169, 26, 5, ZACPI_AML_INVALID, {0, 0}},
-    {state_170, 26, 5, ZACPI_AML_INVALID, {0, 0}},
-    {state_171, 26, 5, ZACPI_AML_INVALID, {0, 0}},
-    {state_172, 26, 5, ZACPI_AML_INVALID, {0, 0}},
-    {state_173, 26, 5, ZACPI_AML_INVALID, {0, 0}},
+    {state_151, 11, 5, ZACPI_AML_INVALID, {0, 0}},
+    {state_152, 7, 5, ZACPI_SLEEP_STATE_NOT_SEEN, {0, 0}},
+    {state_153, 7, 5, ZACPI_AML_INVALID, {0, 0}},
+    {state_154, 7, 5, ZACPI_AML_INVALID, {0, 0}},
+    {state_155, 19, 5, ZACPI_SLEEP_STATE_NOT_SEEN, {0, 0}},
+    {state_155, 19, 4, ZACPI_SLEEP_STATE_ABSENT, {0, 0}},
+    {state_156, 23, 5, ZACPI_OK, {7, 6}},
+    {state_156, 11, 5, ZACPI_SLEEP_STATE_NOT_SEEN, {0, 0}},
+    {state_157, 9, 5, ZACPI_SLEEP_STATE_NOT_SEEN, {0, 0}},
+    {state_158, 10, 5, ZACPI_SLEEP_STATE_NOT_SEEN, {0, 0}},
+    {state_159, 13, 5, ZACPI_OK, {7, 6}},
+    {state_160, 13, 5, ZACPI_OK, {7, 6}},
+    {state_161, 13, 5, ZACPI_AML_INVALID, {0, 0}},
+    {state_162, 13, 5, ZACPI_AML_INVALID, {0, 0}},
+    {state_163, 13, 5, ZACPI_AML_INVALID, {0, 0}},
+    {state_164, 29, 4, ZACPI_OK, {7, 6}},
+    {state_164, 29, 5, ZACPI_OK, {5, 4}},
+    {state_165, 83, 5, ZACPI_OK, {7, 6}},
+    {state_166, 84, 5, ZACPI_OK, {7, 6}},
+    {state_167, 4132, 5, ZACPI_OK, {7, 6}},
+    {state_168, 2, 5, ZACPI_AML_INVALID, {0, 0}},
+    {state_169, 2, 5, ZACPI_AML_INVALID, {0, 0}},
+    {state_170, 10, 5, ZACPI_AML_INVALID, {0, 0}},
+    {state_171, 8, 5, ZACPI_AML_INVALID, {0, 0}},
+    {state_172, 8, 5, ZACPI_AML_INVALID, {0, 0}},
+    {state_173, 26, 5, ZACPI_OK, {7, 6}},
+    {state_173, 0, 5, ZACPI_SLEEP_STATE_ABSENT, {0, 0}},
+    {state_173, 1, 5, ZACPI_AML_INVALID, {0, 0}},
+    {state_173, 2, 5, ZACPI_AML_INVALID, {0, 0}},
+    {state_173, 3, 5, ZACPI_AML_INVALID, {0, 0}},
+    {state_173, 4, 5, ZACPI_AML_INVALID, {0, 0}},
+    {state_173, 5, 5, ZACPI_AML_INVALID, {0, 0}},
+    {state_173, 6, 5, ZACPI_AML_INVALID, {0, 0}},
+    {state_173, 7, 5, ZACPI_AML_INVALID, {0, 0}},
+    {state_173, 8, 5, ZACPI_SLEEP_STATE_ABSENT, {0, 0}},
+    {state_173, 9, 5, ZACPI_AML_INVALID, {0, 0}},
+    {state_173, 10, 5, ZACPI_AML_INVALID, {0, 0}},
+    {state_173, 11, 5, ZACPI_AML_INVALID, {0, 0}},
+    {state_173, 12, 5, ZACPI_AML_INVALID, {0, 0}},
+    {state_173, 13, 5, ZACPI_AML_INVALID, {0, 0}},
+    {state_173, 14, 5, ZACPI_AML_INVALID, {0, 0}},
+    {state_173, 15, 5, ZACPI_AML_INVALID, {0, 0}},
+    {state_173, 16, 5, ZACPI_AML_INVALID, {0, 0}},
+    {state_173, 17, 5, ZACPI_AML_INVALID, {0, 0}},
+    {state_173, 18, 5, ZACPI_AML_INVALID, {0, 0}},
+    {state_173, 19, 5, ZACPI_AML_INVALID, {0, 0}},
+    {state_173, 20, 5, ZACPI_AML_INVALID, {0, 0}},
+    {state_173, 21, 5, ZACPI_AML_INVALID, {0, 0}},
+    {state_173, 22, 5, ZACPI_AML_INVALID, {0, 0}},
+    {state_173, 23, 5, ZACPI_AML_INVALID, {0, 0}},
+    {state_173, 24, 5, ZACPI_AML_INVALID, {0, 0}},
+    {state_173, 25, 5, ZACPI_AML_INVALID, {0, 0}},
     {state_174, 26, 5, ZACPI_AML_INVALID, {0, 0}},
     {state_175, 26, 5, ZACPI_AML_INVALID, {0, 0}},
     {state_176, 26, 5, ZACPI_AML_INVALID, {0, 0}},
@@ -698,12 +725,25 @@ static const struct state_row {
     {state_178, 26, 5, ZACPI_AML_INVALID, {0, 0}},
     {state_179, 26, 5, ZACPI_AML_INVALID, {0, 0}},
     {state_180, 26, 5, ZACPI_OK, {7, 6}},
-    {state_181, 26, 5, ZACPI_AML_INVALID, {0, 0}},
-    {state_182, 26, 5, ZACPI_OK, {248, 6}},
+    {state_181, 26, 5, ZACPI_OK, {7, 6}},
+    {state_182, 26, 5, ZACPI_AML_INVALID, {0, 0}},
     {state_183, 26, 5, ZACPI_AML_INVALID, {0, 0}},
-    {state_184, 26, 5, ZACPI_OK, {7, 249}},
-    {state_185, 26, 5, ZACPI_OK, {7, 6}},
-    {state_186, 26, 5, ZACPI_OK, {7, 6}},
+    {state_184, 26, 5, ZACPI_AML_INVALID, {0, 0}},
+    {state_185, 26, 5, ZACPI_AML_INVALID, {0, 0}},
+    {state_186, 26, 5, ZACPI_AML_INVALID, {0, 0}},
+    {state_187, 26, 5, ZACPI_AML_INVALID, {0, 0}},
+    {state_188, 26, 5, ZACPI_AML_INVALID, {0, 0}},
+    {state_189, 26, 5, ZACPI_AML_INVALID, {0, 0}},
+    {state_190, 26, 5, ZACPI_AML_INVALID, {0, 0}},
+    {state_191, 26, 5, ZACPI_AML_INVALID, {0, 0}},
+    {state_192, 26, 5, ZACPI_AML_INVALID, {0, 0}},
+    {state_193, 26, 5, ZACPI_OK, {7, 6}},
+    {state_194, 26, 5, ZACPI_AML_INVALID, {0, 0}},
+    {state_195, 26, 5, ZACPI_OK, {248, 6}},
+    {state_196, 26, 5, ZACPI_AML_INVALID, {0, 0}},
+    {state_197, 26, 5, ZACPI_OK, {7, 249}},
+    {state_198, 26, 5, ZACPI_OK, {7, 6}},
+    {state_199, 26, 5, ZACPI_OK, {7, 6}},
     {state_1, 0, 5, ZACPI_SLEEP_STATE_ABSENT, {0, 0}},
     {state_1, 1, 5, ZACPI_AML_INVALID, {0, 0}},
     {state_1, 2, 5, ZACPI_AML_INVALID, {0, 0}},
@@ -719,27 +759,27 @@ static const struct state_row {
     {state_1, 12, 5, ZACPI_AML_INVALID, {0, 0}},
     {state_1, 13, 5, ZACPI_AML_INVALID, {0, 0}},
     {state_1, 7, 4, ZACPI_AML_INVALID, {0, 0}},
-    {state_187, 79, 5, ZACPI_SLEEP_STATE_NOT_SEEN, {0, 0}},
-    {state_187, 79, 4, ZACPI_SLEEP_STATE_NOT_SEEN, {0, 0}},
-    {state_187, 79, 3, ZACPI_SLEEP_STATE_NOT_SEEN, {0, 0}},
-    {state_187, 79, 1, ZACPI_SLEEP_STATE_NOT_SEEN, {0, 0}},
-    {state_187, 79, 2, ZACPI_SLEEP_STATE_ABSENT, {0, 0}},
-    {state_188, 61, 5, ZACPI_OK, {5, 4}},
-    {state_188, 61, 3, ZACPI_SLEEP_STATE_NOT_SEEN, {0, 0}},
-    {state_189, 65, 5, ZACPI_OK, {5, 3}},
-    {state_189, 65, 4, ZACPI_SLEEP_STATE_NOT_SEEN, {0, 0}},
-    {state_189, 65, 3, ZACPI_SLEEP_STATE_NOT_SEEN, {0, 0}},
-    {state_190, 140, 5, ZACPI_OK, {0, 1}},
-    {state_190, 140, 3, ZACPI_SLEEP_STATE_ABSENT, {0, 0}},
-    {state_191, 81, 5, ZACPI_OK, {5, 10}},
-    {state_191, 81, 4, ZACPI_SLEEP_STATE_ABSENT, {0, 0}},
-    {state_191, 81, 3, ZACPI_SLEEP_STATE_NOT_SEEN, {0, 0}},
-    {state_192, 143, 5, ZACPI_SLEEP_TYPE_TOO_HIGH, {0, 0}},
-    {state_192, 143, 1, ZACPI_SLEEP_STATE_ABSENT, {0, 0}},
-    {state_193, 81, 5, ZACPI_OK, {7, 6}},
-    {state_193, 81, 4, ZACPI_SLEEP_TYPE_TOO_HIGH, {0, 0}},
-    {state_193, 81, 3, ZACPI_OK, {1, 1}},
-    {state_193, 81, 1, ZACPI_SLEEP_STATE_ABSENT, {0, 0}},
-    {state_194, 48, 5, ZACPI_OK, {3, 2}},
-    {state_194, 48, 1, ZACPI_SLEEP_STATE_ABSENT, {0, 0}}};
+    {state_200, 79, 5, ZACPI_SLEEP_STATE_NOT_SEEN, {0, 0}},
+    {state_200, 79, 4, ZACPI_SLEEP_STATE_NOT_SEEN, {0, 0}},
+    {state_200, 79, 3, ZACPI_SLEEP_STATE_NOT_SEEN, {0, 0}},
+    {state_200, 79, 1, ZACPI_SLEEP_STATE_NOT_SEEN, {0, 0}},
+    {state_200, 79, 2, ZACPI_SLEEP_STATE_ABSENT, {0, 0}},
+    {state_201, 61, 5, ZACPI_OK, {5, 4}},
+    {state_201, 61, 3, ZACPI_SLEEP_STATE_NOT_SEEN, {0, 0}},
+    {state_202, 65, 5, ZACPI_OK, {5, 3}},
+    {state_202, 65, 4, ZACPI_SLEEP_STATE_NOT_SEEN, {0, 0}},
+    {state_202, 65, 3, ZACPI_SLEEP_STATE_NOT_SEEN, {0, 0}},
+    {state_203, 140, 5, ZACPI_OK, {0, 1}},
+    {state_203, 140, 3, ZACPI_SLEEP_STATE_ABSENT, {0, 0}},
+    {state_204, 81, 5, ZACPI_OK, {5, 10}},
+    {state_204, 81, 4, ZACPI_SLEEP_STATE_ABSENT, {0, 0}},
+    {state_204, 81, 3, ZACPI_SLEEP_STATE_NOT_SEEN, {0, 0}},
+    {state_205, 143, 5, ZACPI_SLEEP_TYPE_TOO_HIGH, {0, 0}},
+    {state_205, 143, 1, ZACPI_SLEEP_STATE_ABSENT, {0, 0}},
+    {state_206, 81, 5, ZACPI_OK, {7, 6}},
+    {state_206, 81, 4, ZACPI_SLEEP_TYPE_TOO_HIGH, {0, 0}},
+    {state_206, 81, 3, ZACPI_OK, {1, 1}},
+    {state_206, 81, 1, ZACPI_SLEEP_STATE_ABSENT, {0, 0}},
+    {state_207, 48, 5, ZACPI_OK, {3, 2}},
+    {state_207, 48, 1, ZACPI_SLEEP_STATE_ABSENT, {0, 0}}};
 #endif
