@@ -197,7 +197,8 @@ pub(crate) fn split_whole<'a, const KINDS: usize>(
     ensures shorter { IfSome result (λ x. length x.1.now < length bytes.now) }
     ensures none { IfNone result (cut grammar.now bytes.now ≡ ([], bytes.now)) }
 {
-    if bytes.is_empty() {
+    // Entries to their end have a length, or there are none: tested so, it isn't tested again where it is read.
+    if bytes.len() < end_of(grammar.layout.length_place) {
         return None;
     }
     let size = number_there(grammar.layout.length_place, bytes);
