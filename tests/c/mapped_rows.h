@@ -267,6 +267,10 @@ static int maps_searches(void) {
         {USUAL & ~WITH_WORD, SEARCH, 0x9fc0, {{0x9fc20, 36}, {0xf59e0, 20}}, 2, 10, 8, 0x1000, 0, 0, 0xf59e0, 0},
         {USUAL, SEARCH, 0, {{0xf59e0, 20}}, 2, 10, 8, 1, 0, 0, 0xf59e0, 0},
         {USUAL, SEARCH, 0xffff, {{0xf59e0, 20}}, 2, 10, 8, 1, 0, 0, 0xf59e0, 0},
+        /* The EBDA begins at 0x400 or above; an RSDP has 20 bytes in its KiB. */
+        {USUAL, SEARCH, 0x3f, {{0x400, 20}, {0xf59e0, 20}}, 2, 10, 8, 0x1000, 0, 0, 0xf59e0, 0},
+        {USUAL, SEARCH, 0x9f00, {{0x9f3f0, 20}, {0xf59e0, 20}}, 2, 10, 8, 0x1000, 0, 0, 0xf59e0, 0},
+        {USUAL, SEARCH, 0x9f00, {{0x9f3e0, 20}, {0xf59e0, 20}}, 2, 10, 8, 0x1000, 0, 0, 0x9f3e0, 0},
         /* The last one of the BIOS area ends 4 bytes after it: 36 bytes have to be there. */
         {USUAL | WITH_MIB, SEARCH, 0x9fc0, {{0xfffe0, 20}}, 2, 10, 8, 0x1000, 0, 0, 0xfffe0, 0},
         {USUAL | WITH_MIB, SEARCH, 0x9fc0, {{0xfffe0, 20}}, 2, 10, 8, 1, 0, 0, 0xfffe0, 0},
