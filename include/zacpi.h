@@ -34,7 +34,8 @@
  * that is listed.
  *
  * A list has its items in the table's order. It writes the first `capacity` of them to `out`, and
- * how many there are in all to `count`: with a capacity of 0 it only counts.
+ * how many there are in all to `count`: with a capacity of 0 it only counts. Lists that grow with
+ * the processors have a call `.._from` too, so that a few places serve any number of items.
  *
  * Sections are of the ACPI Specification 6.4 unless another document is named, and names of fields
  * (Length, SCI_INT) are from the document that lays the table out. A field without a comment is
@@ -454,9 +455,10 @@ ZACPI_STATUS zacpi_find_nth_table(const struct zacpi_source *source, struct zacp
 /* Lists the entries of the table at address `table`, listed or not, by a walk of its kind; `start`
  * isn't looked at. Each has Length bytes: at least the bytes up to the end of Type and of Length,
  * and at most the bytes that are left; `malformed` is 1 if bytes are left in which no entry begins.
- * Fails with ZACPI_REGIONS_NOT_ASCENDING, ZACPI_REGION_TOO_HIGH, ZACPI_UNKNOWN_POLICY,
- * ZACPI_UNKNOWN_WIDTH, an error of a table, with its own signature, or ZACPI_SDT_INVALID_LENGTH if
- * its Length is below `first`. */
+ * With `first` where the last item ended, the next call lists what follows it. Fails with
+ * ZACPI_REGIONS_NOT_ASCENDING, ZACPI_REGION_TOO_HIGH, ZACPI_UNKNOWN_POLICY, ZACPI_UNKNOWN_WIDTH, an
+ * error of a table, with its own signature, or ZACPI_SDT_INVALID_LENGTH if its Length is below
+ * `first`. */
 ZACPI_STATUS zacpi_list_entries(const struct zacpi_source *source, uint64_t table,
                                 const struct zacpi_walk *walk, struct zacpi_entry *out,
                                 size_t capacity, size_t *count, uint8_t *malformed,
@@ -928,6 +930,11 @@ ZACPI_STATUS zacpi_list_nmi_lines(const struct zacpi_source *source, struct zacp
 ZACPI_STATUS zacpi_list_processors(const struct zacpi_source *source, struct zacpi_processor *out,
                                    size_t capacity, size_t *count,
                                    struct zacpi_signature *signature);
+/* Lists the items of zacpi_list_processors from the `from`-th on, from 0 on. Fails with an opening
+ * error, ZACPI_TABLE_MISSING "APIC", or ZACPI_NO_APICS. */
+ZACPI_STATUS zacpi_list_processors_from(const struct zacpi_source *source, size_t from,
+                                        struct zacpi_processor *out, size_t capacity,
+                                        size_t *count, struct zacpi_signature *signature);
 
 /* Returns MailBoxAddress of the first Multiprocessor Wakeup: the address of the mailbox by which
  * processors are woken (section 5.2.12.19). Fails with an opening error, ZACPI_TABLE_MISSING
@@ -1076,6 +1083,12 @@ ZACPI_STATUS zacpi_get_gic_distributor(const struct zacpi_source *source,
 ZACPI_STATUS zacpi_list_gic_cpu_interfaces(const struct zacpi_source *source,
                                            struct zacpi_gic_cpu_interface *out, size_t capacity,
                                            size_t *count, struct zacpi_signature *signature);
+/* Lists the items of zacpi_list_gic_cpu_interfaces from the `from`-th on, from 0 on. Fails with an
+ * opening error, ZACPI_TABLE_MISSING "APIC", or ZACPI_NO_GIC. */
+ZACPI_STATUS zacpi_list_gic_cpu_interfaces_from(const struct zacpi_source *source, size_t from,
+                                                struct zacpi_gic_cpu_interface *out,
+                                                size_t capacity, size_t *count,
+                                                struct zacpi_signature *signature);
 /* Lists the memory that contains redistributors: Discovery Range Base Address and Discovery Range
  * Length, which can be 0, of the GICRs (section 5.2.12.17). Fails with an opening error,
  * ZACPI_TABLE_MISSING "APIC", or ZACPI_NO_GIC. */
@@ -1199,6 +1212,11 @@ ZACPI_STATUS zacpi_list_aplics(const struct zacpi_source *source, struct zacpi_a
                                size_t capacity, size_t *count, struct zacpi_signature *signature);
 ZACPI_STATUS zacpi_list_plics(const struct zacpi_source *source, struct zacpi_plic *out,
                               size_t capacity, size_t *count, struct zacpi_signature *signature);
+/* Lists the items of zacpi_list_rintcs from the `from`-th on, from 0 on. Fails with an opening
+ * error, ZACPI_TABLE_MISSING "APIC", or ZACPI_NO_RISCV. */
+ZACPI_STATUS zacpi_list_rintcs_from(const struct zacpi_source *source, size_t from,
+                                    struct zacpi_rintc *out, size_t capacity, size_t *count,
+                                    struct zacpi_signature *signature);
 
 /* NUMA: domains (SRAT, section 5.2.16) and distances (SLIT, section 5.2.17) -------------------- */
 
@@ -1246,6 +1264,12 @@ ZACPI_STATUS zacpi_list_memory_affinities(const struct zacpi_source *source,
 ZACPI_STATUS zacpi_list_processor_affinities(const struct zacpi_source *source,
                                              struct zacpi_processor_affinity *out, size_t capacity,
                                              size_t *count, struct zacpi_signature *signature);
+/* Lists the items of zacpi_list_processor_affinities from the `from`-th on, from 0 on. Fails with an
+ * opening error, or ZACPI_TABLE_MISSING "SRAT". */
+ZACPI_STATUS zacpi_list_processor_affinities_from(const struct zacpi_source *source, size_t from,
+                                                  struct zacpi_processor_affinity *out,
+                                                  size_t capacity, size_t *count,
+                                                  struct zacpi_signature *signature);
 /* Lists the generic initiators that the SRAT puts into domains: its entries of Type 5 that are
  * enabled, up to where no entry begins. Fails with an opening error, or ZACPI_TABLE_MISSING
  * "SRAT". */
@@ -1271,14 +1295,16 @@ ZACPI_STATUS zacpi_list_srat_faults(const struct zacpi_source *source,
 ZACPI_STATUS zacpi_domain_of_address(const struct zacpi_source *source, uint64_t address,
                                      uint32_t *out, struct zacpi_signature *signature);
 /* Returns the domain of the processor with this APIC ID or X2APIC ID: of the last enabled entry for
- * it (sections 5.2.16.1, whose domain has 8 bits below revision 2, and 5.2.16.3). Fails with an
- * opening error, ZACPI_TABLE_MISSING "SRAT", or without an entry ZACPI_NUMA_INVALID_ENTRY_LENGTH,
- * else ZACPI_NO_DOMAIN. */
+ * it (sections 5.2.16.1, whose domain has 8 bits below revision 2, and 5.2.16.3). For all processors
+ * zacpi_list_processor_affinities is one call, where this one opens the tables for each
+ * (examples/c/domains.c). Fails with an opening error, ZACPI_TABLE_MISSING "SRAT", or without an
+ * entry ZACPI_NUMA_INVALID_ENTRY_LENGTH, else ZACPI_NO_DOMAIN. */
 ZACPI_STATUS zacpi_domain_of_apic(const struct zacpi_source *source, uint32_t local_apic_id,
                                   uint32_t *out, struct zacpi_signature *signature);
 /* Returns the domain of the processor of a GIC with this ACPI Processor UID: of the last enabled
- * GICC Affinity entry for it (section 5.2.16.4). Fails with an opening error, ZACPI_TABLE_MISSING
- * "SRAT", or without an entry ZACPI_NUMA_INVALID_ENTRY_LENGTH, else ZACPI_NO_DOMAIN. */
+ * GICC Affinity entry for it (section 5.2.16.4). For all see zacpi_domain_of_apic. Fails with an
+ * opening error, ZACPI_TABLE_MISSING "SRAT", or without an entry ZACPI_NUMA_INVALID_ENTRY_LENGTH,
+ * else ZACPI_NO_DOMAIN. */
 ZACPI_STATUS zacpi_domain_of_processor(const struct zacpi_source *source, uint32_t uid,
                                        uint32_t *out, struct zacpi_signature *signature);
 /* Returns the size of the SLIT, and whether it can be believed. Fails with an opening error, or

@@ -1,7 +1,7 @@
 //! The GIC and the generic timers.
 #![cfg(feature = "alloc")]
 mod common;
-use common::{Memory, TABLE, all, plain, plains, with};
+use common::{Memory, TABLE, all, filled, plain, plains, with};
 use zacpi::alloc::Global;
 use zacpi::arm::gic::{GicModel, distributor_of};
 use zacpi::arm::gtdt::{Gtdt, PlatformTimer, PlatformTimerIter, TimerStructureIter, timer_count, timers_offset};
@@ -54,6 +54,7 @@ fn reads_a_gic() {
     memory.list(|source| {
         assert_eq!(gic::distributor(source).map(plain), Ok("GicDistributor 8000000 1 2 3".into()));
         let list: Vec<GicCpuInterface> = all(|out| gic::parts(source, out)).unwrap();
+        assert_eq!(filled(1, |out| gic::parts_from(source, 1, out)), Ok((vec![list[1]], 2)));
         let first = "101 40000000 8010000 8020000 8030000 80a0000 1 2 17 19 3 15 16 1 1 1 3 4";
         assert_eq!((list.len(), plain(list[0])), (2, format!("GicCpuInterface {first}")));
         let list: Vec<Range> = all(|out| gic::parts(source, out)).unwrap();

@@ -1,7 +1,7 @@
 //! Domains and distances.
 #![cfg(feature = "alloc")]
 mod common;
-use common::{Memory, all, plain, plains, with};
+use common::{Memory, all, filled, plain, plains, with};
 use zacpi::AcpiError;
 use zacpi::alloc::Global;
 use zacpi::lists::numa_records::{GenericInitiator, ItsAffinity, Localities, MemoryAffinity, ProcessorAffinity};
@@ -66,6 +66,7 @@ fn reads_domains() {
         let list: Vec<MemoryAffinity> = all(|out| affinities::srat_entries(source, out)).unwrap();
         assert_eq!(plains(&list), ["MemoryAffinity 1000 1000 1 0 0", "MemoryAffinity 2000 2000 2 1 1"]);
         let list: Vec<ProcessorAffinity> = all(|out| affinities::srat_entries(source, out)).unwrap();
+        assert_eq!(filled(1, |out| affinities::srat_entries_from(source, 1, out)), Ok((vec![list[1]], 3)));
         let expected = ["ProcessorAffinity 3 105 0 0", "ProcessorAffinity 100 6 0 2", "ProcessorAffinity 9 7 8 3"];
         assert_eq!(plains(&list), expected);
         let list: Vec<GenericInitiator> = all(|out| affinities::srat_entries(source, out)).unwrap();

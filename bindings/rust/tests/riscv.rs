@@ -1,6 +1,6 @@
 //! The harts and interrupt controllers of a RISC-V machine.
 mod common;
-use common::{IDS, Memory, TABLE, all, plain, plains, with};
+use common::{IDS, Memory, TABLE, all, filled, plain, plains, with};
 use zacpi::AcpiError;
 use zacpi::lists::{madt_faults, refusal::Refusal, riscv as lists};
 use zacpi::madt::Madt;
@@ -47,6 +47,7 @@ fn lists_harts_and_controllers() {
     memory.list(|source| {
         let rintcs: Vec<Rintc> = all(|out| lists::riscv_entries(source, out)).unwrap();
         assert_eq!(plains(&rintcs), [EXPECTED[0], EXPECTED[2]]);
+        assert_eq!(filled(1, |out| lists::riscv_entries_from(source, 1, out)), Ok((vec![rintcs[1]], 2)));
         let imsics: Vec<Imsic> = all(|out| lists::riscv_entries(source, out)).unwrap();
         let aplics: Vec<Aplic> = all(|out| lists::riscv_entries(source, out)).unwrap();
         let plics: Vec<Plic> = all(|out| lists::riscv_entries(source, out)).unwrap();

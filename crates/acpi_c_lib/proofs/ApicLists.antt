@@ -1,6 +1,6 @@
 -- The list of processors, whose first is made the boot processor after all are written, and what the strict model has
 -- of the same entries.
-use Rattle.std.proofs.Common.{◌≡◌, ℕ, suc, ◌+◌, ◌<◌, ◌≤◌, List, [], ◌∷◌, length, get_or, slice_set, subst, true, refl, add-one, arith, ◌∙◌, sym, ap, filter_map, Option, Some, None}
+use Rattle.std.proofs.Common.{◌≡◌, ℕ, suc, ◌+◌, ◌<◌, ◌≤◌, zero, List, [], ◌∷◌, drop, length, get_or, slice_set, subst, true, refl, add-one, arith, ◌∙◌, sym, ap, filter_map, Option, Some, None}
 use Rattle.std.specs.Prelude.{unwrap_or}
 use Rattle.acpi_base.specs.FromStd.{last_or, list_any}
 use Rattle.acpi_base.specs.Words.{item_in, item_of, last_address}
@@ -21,6 +21,12 @@ put_none (x ∷ xs) n = put_none xs (n + 1)
 pub as_many : (ps : List Processor) → length (boot_first ps) ≡ length ps
 as_many [] = refl
 as_many (p ∷ ps) = refl
+
+-- from the second on they are as they were
+pub later_same : (from : ℕ) (ps : List Processor) → 0 < from → drop from (boot_first ps) ≡ drop from ps
+later_same zero ps some = absurd (omega (arith, some))
+later_same (suc n) [] some = refl
+later_same (suc n) (p ∷ ps) some = refl
 
 -- what is written has the number of places that there were
 none_written : (before ps : List Processor) → length (put_from before 0 ps) ≤ 0 → before ≡ []

@@ -8,6 +8,7 @@ pub mod IommuLists
 pub mod Found
 pub mod FoundRsdp
 pub mod IsaList
+pub mod Parts
 pub mod RangeCut
 pub mod RangeHeap
 pub mod RangeSearch

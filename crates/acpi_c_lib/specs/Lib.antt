@@ -32,6 +32,7 @@ pub mod Members
 pub mod Missing
 pub mod Model
 pub mod Numa
+pub mod Parts
 pub mod Power
 pub mod RangeOrder
 pub mod Records

@@ -322,6 +322,12 @@ pub use Rattle.acpi_c_lib.specs.Numa.{
   srat_faults_below,
   srat_faults_of,
 }
+pub use Rattle.acpi_c_lib.specs.Parts.{
+  AnswersListFrom,
+  FillsFrom,
+  WritesFrom,
+  items_from,
+}
 pub use Rattle.acpi_c_lib.specs.Power.{
   accepted_answer,
   dsdt_answer,

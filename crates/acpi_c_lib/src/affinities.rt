@@ -2,9 +2,9 @@
 //! Services.
 ghost use Rattle.std.specs.Prelude.{◌≡◌, Option, filter_map};
 ghost use Rattle.acpi_numa.specs.Words.{entries_left};
-ghost use Rattle.acpi_c_lib.specs.Words.{Fills, SratEntry, affinity_shown, below_srat, counted_if, initiator_shown, its_shown, lists_some, memory_shown, processor_affinity};
+ghost use Rattle.acpi_c_lib.specs.Words.{Fills, FillsFrom, SratEntry, affinity_shown, below_srat, counted_if, initiator_shown, its_shown, lists_some, memory_shown, processor_affinity};
 
-use crate::lists::{Listing, fill};
+use crate::lists::{Listing, fill_part};
 use crate::numa_records::{GenericInitiator, ItsAffinity, MemoryAffinity, ProcessorAffinity};
 use crate::opening::first;
 use crate::records::Source;
@@ -39,13 +39,25 @@ impl<R: SratRecord> Listing<(), R> for SratEntryIter<'_> {
 }
 
 /// Lists what the entries of one type of the first valid SRAT put into domains.
-#[tactic(auto, using(acpi::proofs::First::filter_map_few))]
+#[tactic(auto, using(crate::proofs::Parts::all_from))]
 pub fn srat_entries<R: SratRecord>(source: &Source<'_>, out: &mut [R]) -> Result<usize, Refusal>
     ensures { Fills result out.old out.new (below_srat source.now R.record_in) }
 {
+    srat_entries_from(source, 0, out)
+}
+
+/// Lists from the `from`-th on, counted from 0, what the entries of one type of the first valid SRAT put into domains.
+#[tactic(auto, using(acpi::proofs::First::filter_map_few))]
+pub fn srat_entries_from<R: SratRecord>(
+    source: &Source<'_>,
+    from: usize,
+    out: &mut [R],
+) -> Result<usize, Refusal>
+    ensures { FillsFrom from result out.old out.new (below_srat source.now R.record_in) }
+{
     let memory = Mapped::new(source.regions);
     let srat = first::<Srat>(&memory, source)?;
-    Ok(fill(Domains::over(srat.bytes()).entries(), &(), out))
+    Ok(fill_part(Domains::over(srat.bytes()).entries(), &(), from, out))
 }
 
 // Memory (section 5.2.16.2). A range that ends at 2^64 or above is none.

@@ -2,10 +2,10 @@
 ghost use Rattle.std.specs.Prelude.{◌≡◌, Option, length, filter_map};
 ghost use Rattle.acpi_base.specs.FromStd.{list_any};
 ghost use Rattle.acpi_base.specs.Words.{entries_of, bytes_of, entries_left, Gives};
-ghost use Rattle.acpi_c_lib.specs.Words.{Fills, Writes, put_from, MadtEntry, apic_table, below_apics, boot_first, booted, io_apic_in, is_of_apics, mailbox_below, nmi_line, nmi_line_in, nmi_source_in, override_in, processor_in, processors_below, processors_of, mapped_memory, lists_some, memory_in};
+ghost use Rattle.acpi_c_lib.specs.Words.{Fills, FillsFrom, Writes, WritesFrom, put_from, MadtEntry, apic_table, below_apics, boot_first, booted, io_apic_in, is_of_apics, mailbox_below, nmi_line, nmi_line_in, nmi_source_in, override_in, processor_in, processors_below, processors_of, mapped_memory, lists_some, memory_in};
 
 use crate::interrupt_records::{InterruptSourceOverride, IoApic, NmiLine, NmiSource, Processor};
-use crate::lists::{Listing, fill};
+use crate::lists::{Listing, fill, fill_part};
 use crate::opening::first;
 use crate::records::Source;
 use crate::refusal::Refusal;
@@ -115,22 +115,36 @@ fn fill_entries<R: MadtRecord>(table: &[u8], out: &mut [R]) -> usize
 }
 
 /// Lists the processors, the boot processor first.
+#[tactic(auto, using(crate::proofs::Parts::all_from))]
 pub fn processors(source: &Source<'_>, out: &mut [Processor]) -> Result<usize, Refusal>
     ensures { Fills result out.old out.new (processors_below source.now) }
 {
-    let memory = Mapped::new(source.regions);
-    let madt = apics(&memory, source)?;
-    Ok(fill_processors(madt.bytes(), out))
+    processors_from(source, 0, out)
 }
 
-/// Writes the processors of a MADT, the boot processor first.
-#[tactic(auto, using(crate::proofs::ApicLists::as_many, acpi::proofs::First::filter_map_few))]
-fn fill_processors(table: &[u8], out: &mut [Processor]) -> usize
-    ensures { Writes result out.old out.new (processors_of table.now) }
+/// Lists the processors from the `from`-th on, counted from 0: the first of all is the boot processor.
+pub fn processors_from(
+    source: &Source<'_>,
+    from: usize,
+    out: &mut [Processor],
+) -> Result<usize, Refusal>
+    ensures { FillsFrom from result out.old out.new (processors_below source.now) }
+{
+    let memory = Mapped::new(source.regions);
+    let madt = apics(&memory, source)?;
+    Ok(fill_processors(madt.bytes(), from, out))
+}
+
+/// Writes the processors of a MADT from the `from`-th on. The first of all is the boot processor.
+#[tactic(auto, using(crate::proofs::ApicLists::as_many, crate::proofs::ApicLists::later_same, acpi::proofs::First::filter_map_few))]
+fn fill_processors(table: &[u8], from: usize, out: &mut [Processor]) -> usize
+    ensures { WritesFrom from result out.old out.new (processors_of table.now) }
 {
     let revision = field(table, 8, 1) as u8; // Revision
-    let count = fill(MadtEntryIter::over(table), &revision, out);
-    boot_first(out, count);
+    let count = fill_part(MadtEntryIter::over(table), &revision, from, out);
+    if from == 0 {
+        boot_first(out, count);
+    }
     count
 }
 

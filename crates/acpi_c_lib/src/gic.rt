@@ -4,14 +4,15 @@ ghost use Rattle.std.specs.Prelude.{◌≡◌, map, filter_map, ok_or, option_ma
 ghost use Rattle.acpi_base.specs.FromStd.{list_any};
 ghost use Rattle.acpi_base.specs.Words.{bytes_of, entries_of, Gives, entries_left};
 ghost use Rattle.acpi_arm.specs.Gic.{distributor_in, items_of};
-ghost use Rattle.acpi_c_lib.specs.Answers.{Fills, Writes};
+ghost use Rattle.acpi_c_lib.specs.Answers.{Fills};
+ghost use Rattle.acpi_c_lib.specs.Parts.{FillsFrom, WritesFrom};
 ghost use Rattle.acpi_c_lib.specs.Held.{mapped_memory};
 ghost use Rattle.acpi_c_lib.specs.Regions.{memory_in};
 ghost use Rattle.acpi_c_lib.specs.Arm.{below_gic, cpu_interface_record, distributor_below, gic_table, is_of_gic, msi_frame_record, no_distributor, redistributors_record, translation_service_record};
 ghost use Rattle.acpi_c_lib.specs.Listed.{lists_found};
 
 use crate::arm_records as records;
-use crate::lists::{Listing, fill};
+use crate::lists::{Listing, fill_part};
 use crate::opening::first;
 use crate::records::{Range, Source};
 use crate::refusal::Refusal;
@@ -115,21 +116,34 @@ pub trait GicRecord: Copy {
 }
 
 /// Lists the parts of one sort of the GIC that the first valid MADT describes.
+#[tactic(auto, using(crate::proofs::Parts::all_from))]
 pub fn parts<R: GicRecord>(source: &Source<'_>, out: &mut [R]) -> Result<usize, Refusal>
     ensures { Fills result out.old out.new
         (below_gic source.now (λ table. map R.record_of (items_of R.Part.said_in table))) }
 {
+    parts_from(source, 0, out)
+}
+
+/// Lists from the `from`-th on, counted from 0, the parts of one sort of the GIC that the first valid MADT describes.
+pub fn parts_from<R: GicRecord>(
+    source: &Source<'_>,
+    from: usize,
+    out: &mut [R],
+) -> Result<usize, Refusal>
+    ensures { FillsFrom from result out.old out.new
+        (below_gic source.now (λ table. map R.record_of (items_of R.Part.said_in table))) }
+{
     let memory = Mapped::new(source.regions);
     let madt = gic_madt(&memory, source)?;
-    Ok(fill_parts(madt.bytes(), out))
+    Ok(fill_parts(madt.bytes(), from, out))
 }
 
 #[tactic(auto, using(crate::proofs::Written::found_few))]
-fn fill_parts<R: GicRecord>(table: &[u8], out: &mut [R]) -> usize
-    ensures { Writes result out.old out.new (map R.record_of (items_of R.Part.said_in table.now)) }
+fn fill_parts<R: GicRecord>(table: &[u8], from: usize, out: &mut [R]) -> usize
+    ensures { WritesFrom from result out.old out.new (map R.record_of (items_of R.Part.said_in table.now)) }
 {
     let revision = field(table, 8, 1) as u8;
-    fill(MadtEntryIter::over(table), &revision, out)
+    fill_part(MadtEntryIter::over(table), &revision, from, out)
 }
 
 impl<R: GicRecord> Listing<u8, R> for MadtEntryIter<'_> {

@@ -1,5 +1,5 @@
 //! How a list is written for C: the records that its capacity holds are written, and all are counted.
-ghost use Rattle.std.specs.Prelude.{◌≡◌, ◌+◌, ◌^◌, ◌<◌, length, slice_set, List, Option};
+ghost use Rattle.std.specs.Prelude.{◌≡◌, ◌+◌, ◌^◌, ◌<◌, drop, length, slice_set, List, Option};
 ghost use Rattle.acpi_base.specs.FromStd.{IsFinite};
 ghost use Rattle.acpi_c_lib.specs.Answers.{Writes, put_from};
 ghost use Rattle.acpi_c_lib.specs.Listed.{ListsFirst};
@@ -50,6 +50,30 @@ pub(crate) fn fill_from<R: Copy, C, W: Listing<C, R>>(
         }
     }
     count
+}
+
+/// Writes the records of a walk's items from the `from`-th on, counted from 0, and counts all.
+pub(crate) fn fill_part<R: Copy, C, W: Listing<C, R>>(
+    walk: W,
+    known: &C,
+    from: usize,
+    out: &mut [R],
+) -> usize
+    requires goes_on { W.can_next walk × IsFinite (W.remaining walk) }
+    requires few { length (W.left known.now walk) < 2 ^ 63 }
+    ensures count { result ≡ length (W.left known.now walk) }
+    ensures items { out.new ≡ put_from out.old 0 (drop from (W.left known.now walk)) }
+{
+    let mut all = 0;
+    for item in walk {
+        if let Some(record) = W::record(known, item) {
+            if all >= from {
+                put(out, all - from, record);
+            }
+            all += 1;
+        }
+    }
+    all
 }
 
 /// Writes the records of a walk's items, and counts them.

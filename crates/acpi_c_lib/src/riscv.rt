@@ -2,9 +2,9 @@
 //! entries of the MADT.
 ghost use Rattle.std.specs.Prelude.{◌≡◌, Option, filter_map};
 ghost use Rattle.acpi_riscv.specs.Words.{entries_left, entries_of};
-ghost use Rattle.acpi_c_lib.specs.Words.{RiscvEntry, Fills, Writes, aplic_in, below_riscv, imsic_in, lists_some, plic_in, rintc_in};
+ghost use Rattle.acpi_c_lib.specs.Words.{RiscvEntry, Fills, FillsFrom, WritesFrom, aplic_in, below_riscv, imsic_in, lists_some, plic_in, rintc_in};
 
-use crate::lists::{Listing, fill};
+use crate::lists::{Listing, fill_part};
 use crate::opening::first;
 use crate::records::Source;
 use crate::refusal::Refusal;
@@ -39,23 +39,37 @@ impl<R: RiscvRecord> Listing<(), R> for RiscvEntryIter<'_> {
 /// Lists the entries of one type of the first valid MADT.
 ///
 /// Fails as `first` does, and then with `NoRiscv` if it has none of any of these types.
-#[tactic(auto, unfolding(crate::specs::Riscv::riscv_entries))]
+#[tactic(auto, using(crate::proofs::Parts::all_from))]
 pub fn riscv_entries<R: RiscvRecord>(source: &Source<'_>, out: &mut [R]) -> Result<usize, Refusal>
     ensures { Fills result out.old out.new (below_riscv source.now R.record_in) }
+{
+    riscv_entries_from(source, 0, out)
+}
+
+/// Lists the entries of one type of the first valid MADT from the `from`-th on, counted from 0.
+///
+/// Fails as `riscv_entries` does.
+#[tactic(auto, unfolding(crate::specs::Riscv::riscv_entries))]
+pub fn riscv_entries_from<R: RiscvRecord>(
+    source: &Source<'_>,
+    from: usize,
+    out: &mut [R],
+) -> Result<usize, Refusal>
+    ensures { FillsFrom from result out.old out.new (below_riscv source.now R.record_in) }
 {
     let memory = Mapped::new(source.regions);
     let madt = first::<Madt>(&memory, source)?;
     if RiscvEntryIter::over(madt.bytes()).next().is_none() {
         return Err(Refusal::NoRiscv);
     }
-    Ok(fill_entries(madt.bytes(), out))
+    Ok(fill_entries(madt.bytes(), from, out))
 }
 
 #[tactic(auto, using(acpi::proofs::First::filter_map_few))]
-fn fill_entries<R: RiscvRecord>(table: &[u8], out: &mut [R]) -> usize
-    ensures { Writes result out.old out.new (filter_map R.record_in (entries_of table.now)) }
+fn fill_entries<R: RiscvRecord>(table: &[u8], from: usize, out: &mut [R]) -> usize
+    ensures { WritesFrom from result out.old out.new (filter_map R.record_in (entries_of table.now)) }
 {
-    fill(RiscvEntryIter::over(table), &(), out)
+    fill_part(RiscvEntryIter::over(table), &(), from, out)
 }
 
 impl RiscvRecord for Rintc {
