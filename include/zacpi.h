@@ -446,6 +446,12 @@ static inline const uint8_t *zacpi_table_bytes(const struct zacpi_region *region
     return regions[place.region].bytes + place.offset;
 }
 
+/* Returns the header of the table at an address, listed or not, as the root table's or the DSDT's;
+ * `start` isn't looked at. Fails with ZACPI_REGIONS_NOT_ASCENDING, ZACPI_REGION_TOO_HIGH,
+ * ZACPI_UNKNOWN_POLICY, or an error of a table, with its own signature. */
+ZACPI_STATUS zacpi_get_table(const struct zacpi_source *source, uint64_t address,
+                             struct zacpi_table *out, struct zacpi_signature *signature);
+
 /* Returns the `index`-th valid table of the wanted signature, from 0 on (section 5.2.6). Fails with
  * an opening error, or ZACPI_TABLE_MISSING with that signature. */
 ZACPI_STATUS zacpi_find_nth_table(const struct zacpi_source *source, struct zacpi_signature wanted,

@@ -1,5 +1,5 @@
-/* Rows of the lists from an item on, by which a few places serve a list of any length, worked out by hand from
- * rows_tables.h and rows_tables_kinds.h. For rows.c. */
+/* Rows of the lists from an item on, by which a few places serve a list of any length, and of the header of a table at
+ * an address, worked out by hand from rows_tables.h, rows_tables_kinds.h and rows_bytes.h. For rows.c. */
 #ifndef ROWS_PARTS_H
 #define ROWS_PARTS_H
 
@@ -128,7 +128,50 @@ static void check_many(void) {
     result(next == MANY - 1 && count == 3510, "list_processor_affinities_from", MANY, count, 0);
 }
 
+/* ---- zacpi_get_table ------------------------------------------------------------------------------------- */
+
+/* The tables of rows_bytes.h, which no root table lists, and of rows_tables.h root tables, a DSDT and a table with ids,
+ * at whatever start. */
+static const struct there_row {
+    const struct zacpi_region *regions;
+    size_t regions_length;
+    uint32_t accept;
+    uint64_t address;
+    zacpi_status status;
+    const char *named;
+    uint64_t values[9];
+} there_rows[] = {
+    {REGIONS(usual), 0, AT(ARM), ZACPI_OK, NULL, {AT(ARM), 56, LETTERS('R', 'S', 'D', 'T'), 1, NO_IDS}},
+    {REGIONS(usual), 0, AT(PC), ZACPI_OK, NULL, {AT(PC), 68, LETTERS('X', 'S', 'D', 'T'), 1, NO_IDS}},
+    {REGIONS(usual), 0, AT(DSDT), ZACPI_OK, NULL, {AT(DSDT), 60, LETTERS('D', 'S', 'D', 'T'), 2, NO_IDS}},
+    {REGIONS(usual), 0, AT(HPET), ZACPI_OK, NULL, {AT(HPET), 56, LETTERS('H', 'P', 'E', 'T'), 1, HPET_IDS}},
+    {REGIONS(laid), 0, TABLE(IN_APIC), ZACPI_OK, NULL,
+     {TABLE(IN_APIC), 66, LETTERS('A', 'P', 'I', 'C'), 0, NO_IDS}},
+    {REGIONS(laid), ZACPI_ACCEPT_SUMS, TABLE(IN_SUM), ZACPI_OK, NULL,
+     {TABLE(IN_SUM), 40, LETTERS('O', 'E', 'M', '1'), 0, NO_IDS}},
+    {REGIONS(laid), ZACPI_ACCEPT_IDS, TABLE(IN_SUM), ZACPI_SDT_INVALID_CHECKSUM, "OEM1", {0}},
+    {REGIONS(laid), 0, TABLE(IN_35), ZACPI_SDT_INVALID_LENGTH, "OEM3", {0}},
+    {REGIONS(laid), 3, TABLE(IN_OTHER), ZACPI_SDT_INVALID_SIGNATURE, "\377OEM", {0}},
+    {REGIONS(laid), 0, TABLE(IN_LOST), ZACPI_MAP_FAILED, NULL, {0}}, /* a byte of its Length isn't lent */
+    {REGIONS(laid), 0, TABLE(NOWHERE), ZACPI_MAP_FAILED, NULL, {0}},
+    {REGIONS(laid), 4, TABLE(IN_SUM), ZACPI_UNKNOWN_POLICY, NULL, {0}},
+    {REGIONS(placed_over), 4, TABLE(IN_APIC), ZACPI_REGIONS_NOT_ASCENDING, NULL, {0}},
+    {REGIONS(placed_too_high), 0, TABLE(IN_APIC), ZACPI_REGION_TOO_HIGH, NULL, {0}},
+    {NULL, 0, 0, TABLE(IN_APIC), ZACPI_MAP_FAILED, NULL, {0}}};
+static const struct call call_there = {"get_table", NULL, of_table, sizeof(table), 0};
+
+static void check_there(const struct there_row *row) {
+    struct zacpi_signature named = {{'?', '?', '?', '?'}};
+    const struct zacpi_source given = {row->regions, row->regions_length, 0, 5 /* no start */, row->accept};
+    const struct zacpi_source source = source_at_edge(given);
+    const zacpi_status got = zacpi_get_table(&source, row->address, (table *)paint(&out, sizeof(table)), &named);
+    result(got == row->status && !memcmp(named.letters, row->named ? row->named : "????", 4)
+           && is_written(&call_there, row->values, row->status ? 0 : 1), "get_table", (int)(row - there_rows), 1, got);
+}
+
 static void check_parts(void) {
+    size_t i;
     if (is_there("list_processors_from") && is_there("list_processor_affinities_from")) check_many();
+    for (i = 0; is_there("get_table") && i < sizeof there_rows / sizeof *there_rows; i++) check_there(there_rows + i);
 }
 #endif

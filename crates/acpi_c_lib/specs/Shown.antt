@@ -8,9 +8,10 @@ use Rattle.acpi_fixed.specs.Words.{dsdt_address_of, fadt_at}
 use Rattle.acpi.specs.Words.{Opened, ecam_address, fadt_kind, hpet_at, hpet_kind, info_of, mcfg_kind, protection_code, stream_of, width_of, lookup}
 use Rattle.acpi_c_lib.specs.Types.{HpetInfo, EcamRange, PciRegion, Root, NoSuchFunction}
 use Rattle.acpi_c_lib.specs.Answers.{result_map}
-use Rattle.acpi_c_lib.specs.Below.{AcpiError, Refusal, Source, below_first, below_source, first_table, opened_below, rsdp_place_in}
+use Rattle.acpi_c_lib.specs.Below.{AcpiError, Refusal, Source, below_first, below_source, check_policy, first_table, opened_below, refused_as, rsdp_place_in}
 use Rattle.acpi_c_lib.specs.Devices.{flag}
 use Rattle.acpi_c_lib.specs.Records as records
+use Rattle.acpi_c_lib.specs.Regions.{memory_in}
 pub use Rattle.acpi_c_lib.specs.declared.records.Table.{Table}
 
 -- ---- the root table
@@ -64,6 +65,14 @@ signature_named name = record { 0 = name.letters }
 abbrev pub table_below : Source → records.Signature → Result Table Refusal
 table_below s name = below_source s (λ m ps. result_map table_record
     (lookup m (accepted s.accept (plain_kind (signature_named name))) ps))
+
+-- the table at an address, if it is valid under its own signature. Where the source starts doesn't count
+abbrev pub table_there : Source → ℕ → Result Table Refusal
+table_there s address = do
+  m ← memory_in s.regions.now
+  _ ← check_policy s
+  table ← refused_as (own_accepted s.accept m address)
+  Ok (table_record (address, table))
 
 -- the AML of a table, by its address and its bytes
 abbrev pub aml_record : ℕ × List ℕ → records.AmlTable

@@ -409,6 +409,7 @@ pub use Rattle.acpi_c_lib.specs.Shown.{
   table_below,
   table_in,
   table_record,
+  table_there,
   tables_below,
   tables_in,
 }

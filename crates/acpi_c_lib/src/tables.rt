@@ -2,10 +2,10 @@
 ghost use Rattle.std.specs.Prelude.{◌≡◌};
 ghost use Rattle.acpi_base.specs.Words.{bytes_of, start_of};
 ghost use Rattle.acpi.specs.Words.{accept_of, memory_of, pointers_left};
-ghost use Rattle.acpi_c_lib.specs.Words.{Fills, aml_at, dsdt_below, signature_named, ssdt_in, ssdts_below, ssdts_in, table_below, table_record, tables_below, table_in, tables_in, lists_some};
+ghost use Rattle.acpi_c_lib.specs.Words.{Fills, aml_at, dsdt_below, signature_named, ssdt_in, ssdts_below, ssdts_in, table_below, table_record, table_there, tables_below, table_in, tables_in, lists_some};
 
 use crate::lists::{Listing, fill};
-use crate::opening::{find_fadt, open};
+use crate::opening::{check_policy, find_fadt, open};
 use crate::records::{self, AmlTable, Source, Table};
 use crate::refusal::Refusal;
 use crate::regions::Mapped;
@@ -14,6 +14,7 @@ use acpi::{
     Accept, AcpiHandler, AcpiResult, AcpiTables, PhysicalMapping, PhysicalRecord, Pointers,
 };
 use acpi_base::bytes::filled;
+use acpi_base::table::own_valid_by;
 
 /// A table, by its mapping.
 pub(crate) fn entry<H: AcpiHandler>(table: &PhysicalMapping<'_, H, SdtHeader>) -> Table
@@ -65,6 +66,16 @@ pub fn find(source: &Source<'_>, name: records::Signature) -> Result<Table, Refu
     let memory = Mapped::new(source.regions)?;
     let tables = open(&memory, source)?;
     let table = tables.find_sdt(signature_named(name))?;
+    Ok(entry(&table))
+}
+
+/// The table at an address, listed or not. Of a source only the regions and what it accepts count.
+pub fn table_there(source: &Source<'_>, address: u64) -> Result<Table, Refusal>
+    ensures { result ≡ table_there source.now address }
+{
+    let memory = Mapped::new(source.regions)?;
+    check_policy(source)?;
+    let table = own_valid_by(&memory, address, source.accept)?.mapping::<SdtHeader>();
     Ok(entry(&table))
 }
 
