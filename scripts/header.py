@@ -49,6 +49,23 @@ def layout(kind):
     return -(-at // most) * most, most, last
 
 
+# a struct's declaration and the comment after it, on the same line
+FIELD = r'((?:/\*.*?\*/|[^;/])+);[ \t]*(/\*.*?\*/)?'
+
+
+def comments():
+    """What the comment of each field is that has one, by struct and field."""
+    found = {}
+    for name in ('zacpi.h', 'zacpi_write.h'):
+        for struct, body in re.findall(r'(?s)\nstruct (zacpi_\w+) \{(.*?)\n\};', (ROOT / 'include' / name).read_text()):
+            found[struct] = {}
+            for declaration, comment in re.findall('(?s)' + FIELD, re.sub(r'(?s)^\s*/\*.*?\*/', '', body, count=1)):
+                fields = split(re.sub(r'(?s)/\*.*?\*/|\bZACPI_SLOT ', '', declaration).strip())
+                words = ' '.join(re.sub(r'(?m)^ *\* ?|/\*|\*/', ' ', comment).split())
+                found[struct] |= {re.sub(r'\[.*', '', field): words for _, field in fields if words and len(fields) == 1}
+    return found
+
+
 # the head of a section, a comment that stands alone, a struct, and a call
 DECLARED = (r'(?m)^/\* (.*?) -+ \*/$|(?s:^(/\* (?:(?!\*/).)*\*/)$)|^struct (zacpi_\w+) \{|'
             r'^ZACPI_STATUS (zacpi_\w+)\(')
