@@ -16,7 +16,6 @@ pub mod base;
 mod exports;
 mod fixed;
 pub mod iommu;
-#[allow(missing_docs)] // fields of records: include/zacpi.h has them
 pub mod lists;
 pub mod numa;
 pub mod riscv;
