@@ -21,6 +21,9 @@ GLOBAL = (r'(?P<call>\.platform_info)\([^()]*(?:\([^()]*\))?\)',
           r'(?P<first>[^(),]*(?:\([^()]*\))?), ')
 # An error that stable Rust has no name for: it is one of the others.
 UNSTABLE = r' *ErrorKind::FilesystemLoop => [^\n]*,\n'
+# Most of the programs' time is in these: a search that is made for short pieces is in the place of Rust's. Of a text or
+# several characters Rust's stays.
+PIECES = {r"\.split\((?='(?:\\?.|\\x..)'\))": '.pieces(', r'\.split_once\((?!")': '.two_pieces('}
 
 WORKSPACE = '''[workspace]
 resolver = "3"
@@ -55,8 +58,16 @@ def places_of(erase, package):
     return {**places, 'bitflags': f'{package}::rattle::bitflags'}
 
 
+def with_pieces(erase, text, package):
+    new = text
+    for call, place in PIECES.items():
+        new = re.sub(call, place, new)
+    return text if new == text else erase.with_head(new, '', f'use {package}::rattle::Pieces;\n')
+
+
 def text_of(erase, crate, path, module, package, head):
-    return without_global(erase.file_text(crate, str(path), module, places_of(erase, package), f'{package}::rattle', head))
+    text = erase.file_text(crate, str(path), module, places_of(erase, package), f'{package}::rattle', head)
+    return with_pieces(erase, without_global(text), package)
 
 
 def programs(erase):

@@ -6,12 +6,14 @@ pub mod bitflags;
 pub mod collections;
 pub mod fs;
 pub mod os;
+pub mod pieces;
 pub mod runtime;
 pub mod slices;
 pub mod string;
 pub mod vec;
 
 pub use crate::{format, println, vec};
+pub use pieces::Pieces;
 pub use runtime::io::ReadToEndIn;
 pub use runtime::{HostRuntime, env, io, process};
 pub use slices::{CollectIn, ToVecIn};
