@@ -5,6 +5,7 @@ use crate::check::devices::register_at;
 use crate::check::findings::Findings;
 use crate::input::entries::{Entry, own_signature};
 use crate::input::status::Status;
+use crate::rattle::Pieces;
 use crate::walk::fault::Fault;
 use crate::walk::fields::unnamed_in;
 use crate::walk::language::{cut_at, is_chosen, next_word, number_of};
@@ -129,7 +130,7 @@ fn check_status(entry: &Entry<'_>, findings: &mut Findings) {
 /// known.
 fn form_of(name: &str, revision: u64) -> (Option<&'static str>, bool) {
     let mut has_form = false;
-    for line in FORMS.split('\n') {
+    for line in FORMS.pieces('\n') {
         let (of, line) = next_word(line);
         let (revisions, length) = next_word(line);
         if of == name {

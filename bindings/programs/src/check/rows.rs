@@ -19,6 +19,7 @@ use crate::check::fields::ROWS;
 use crate::check::findings::Findings;
 use crate::check::numbers::Numbers;
 use crate::input::entries::own_signature;
+use crate::rattle::Pieces;
 use crate::walk::fields::{number_of as number_in, unnamed_in};
 use crate::walk::language::{cut_at, is_chosen, next_word, number_at, number_of};
 use crate::walk::walk::{Field, Group, Show, walk_table};
@@ -73,7 +74,7 @@ impl Row {
     /// field's name has no letters.
     fn is_of(&self, title: &str, field: &str) -> bool {
         self.test == "of"
-            && self.targets.split('|').any(|target| {
+            && self.targets.pieces('|').any(|target| {
                 let (structure, of) = cut_at(target, '>');
                 let structure = structure.trim_ascii();
                 of.trim_ascii() == field && (structure == title || structure == "*")
@@ -92,7 +93,7 @@ fn number_from(bytes: &[u8], place: &str) -> u64 {
 
 /// Whether a number is in one of the ranges of a test.
 fn meets(number: u64, test: &str) -> bool {
-    test.split(',').any(|range| is_chosen(number, range))
+    test.pieces(',').any(|range| is_chosen(number, range))
 }
 
 /// The judgement of a table by its rows, as a walk comes to its fields.
@@ -121,7 +122,7 @@ impl Show for Judged<'_> {
         }
         self.depth = depth;
         let (lines, mut list) = (self.lines, 1u64);
-        for line in lines.split('\n') {
+        for line in lines.pieces('\n') {
             if Row::read(line).is_of(group.name, "") {
                 self.numbers.push(list, group.offset, group.offset as usize);
             }
@@ -136,7 +137,7 @@ impl Show for Judged<'_> {
     fn field(&mut self, shown: &Field<'_>) {
         let (title, offset) = (self.title(), shown.offset as usize);
         let (lines, mut list) = (self.lines, 0u64);
-        for line in lines.split('\n') {
+        for line in lines.pieces('\n') {
             let row = Row::read(line);
             let number = number_from(shown.bytes, row.place);
             if row.is_of(title, shown.label.name) {
@@ -167,7 +168,7 @@ fn judge_numbers(lines: &'static str, numbers: &Numbers, findings: &mut Findings
     let mut before = (u64::MAX, 0u64, 0usize);
     for (list, number, offset) in numbers.all.iter() {
         let (list, number, offset) = (*list, *number, *offset);
-        let row = Row::read(lines.split('\n').nth((list / 2) as usize).unwrap_or(""));
+        let row = Row::read(lines.pieces('\n').nth((list / 2) as usize).unwrap_or(""));
         let is_wrong = if row.test == "once" {
             before.0 == list && before.1 == number
         } else {
@@ -192,7 +193,7 @@ fn check_lines(table: &[u8], lines: &'static str, findings: &mut Findings) {
 
 /// Judges a table by the rows of its signature.
 pub(crate) fn check_rows(table: &[u8], findings: &mut Findings) {
-    for block in ROWS.split('=').skip(1) {
+    for block in ROWS.pieces('=').skip(1) {
         let (head, lines) = cut_at(block, '\n');
         let (name, head) = next_word(head);
         let (place, range) = next_word(head);

@@ -3,6 +3,7 @@
 
 use crate::check::subjects;
 use crate::input::judgement::{Rule, Severity};
+use crate::rattle::Pieces;
 use crate::rattle::Vec;
 use crate::rattle::alloc::{AllocError, Global};
 use crate::walk::language::{cut_at, next_word};
@@ -13,7 +14,7 @@ use crate::walk::language::{cut_at, next_word};
 pub fn rules(alloc: Global) -> Result<Vec<Rule>, AllocError> {
     let mut all = Vec::new(alloc);
     for subject in &subjects() {
-        for line in subject.split('\n') {
+        for line in subject.pieces('\n') {
             let (id, line) = next_word(line);
             let (severity, line) = next_word(line);
             let (section, line) = cut_at(line, '|');

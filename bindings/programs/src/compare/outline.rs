@@ -2,6 +2,7 @@
 //! The structures of a table with their fields, and of AML its objects.
 
 use crate::input::entries::Entry;
+use crate::rattle::Pieces;
 use crate::rattle::Vec;
 use crate::rattle::alloc::{AllocError, Global};
 use crate::walk::aml::{Ends, Object, Value};
@@ -86,7 +87,7 @@ pub struct Items<'t> {
 
 /// Whether a field of this name tells structures apart.
 fn is_id(name: &str) -> bool {
-    for end in IDS.split('|') {
+    for end in IDS.pieces('|') {
         if name.ends_with(end) {
             return true;
         }

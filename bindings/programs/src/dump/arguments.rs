@@ -9,6 +9,7 @@ use crate::input::errors::{Log, Stop};
 use crate::input::judgement::Severity;
 use crate::input::kind::{Kind, parse_kind};
 use crate::input::read::Reading;
+use crate::rattle::Pieces;
 use crate::rattle::Vec;
 use crate::rattle::alloc::{AllocError, Global};
 use zacpi::sdt::Signature;
@@ -91,10 +92,10 @@ fn parse_signature(word: &str) -> Option<Option<Signature>> {
 
 /// The way that `rsdt:REVISION:ADDRESS`, `rsdp:ADDRESS` or `bios` names.
 fn parse_start(word: &str) -> Option<Root> {
-    let Some((form, rest)) = word.split_once(':') else {
+    let Some((form, rest)) = word.two_pieces(':') else {
         return parse_root(&[word]);
     };
-    match rest.split_once(':') {
+    match rest.two_pieces(':') {
         None => parse_root(&[form, rest]),
         Some((revision, address)) => parse_root(&[form, revision, address]),
     }

@@ -7,6 +7,7 @@ mod machine;
 mod tables;
 
 use crate::json::{Pretty, Token, is_number};
+use crate::rattle::Pieces;
 use crate::rattle::Vec;
 use crate::rattle::alloc::{AllocError, Global};
 use crate::walk::aml::{Ends, Object, Value};
@@ -25,7 +26,7 @@ const VERSION: u64 = 1;
 /// Prints a document. The bytes 0x7f, which its texts may have as they are, are escaped: a terminal would obey them.
 fn print_json(document: &[u8], out: &mut Out) {
     let text = str::from_utf8(document).unwrap_or("");
-    for (number, part) in text.split('\x7f').enumerate() {
+    for (number, part) in text.pieces('\x7f').enumerate() {
         if number > 0 {
             out.text("\\u007f");
         }
@@ -134,7 +135,7 @@ impl<'d> Document<'d> {
 
     /// Adds numbers by their names, which stand in one text.
     fn numbers(&mut self, names: &str, numbers: &[u64]) {
-        for (name, number) in names.split(' ').zip(numbers) {
+        for (name, number) in names.pieces(' ').zip(numbers) {
             self.number(name, *number);
         }
     }

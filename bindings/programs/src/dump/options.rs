@@ -3,6 +3,7 @@
 
 use crate::arguments::{Arg, ArgAction, Command};
 use crate::input::errors::{Log, Stop};
+use crate::rattle::Pieces;
 use crate::rattle::alloc::{AllocError, Global};
 use crate::walk::language::{cut_at, next_word};
 use zacpi::sdt::Signature;
@@ -81,7 +82,7 @@ pub(crate) fn command<'a>(alloc: Global) -> Result<Command<'a>, AllocError> {
         .after_help(AFTER)
         .no_binary_name(true)
         .arg(inputs(alloc))?;
-    for line in OPTIONS.split('\n') {
+    for line in OPTIONS.pieces('\n') {
         command = command.arg(option(alloc, line))?;
     }
     Ok(command)

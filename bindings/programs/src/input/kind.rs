@@ -4,6 +4,7 @@
 use crate::image_reader::MemoryImage;
 use crate::input::candidates::has_valid_rsdp;
 use crate::input::text::heading_in;
+use crate::rattle::Pieces;
 use crate::rattle::alloc::Global;
 use zacpi::sdt::field;
 
@@ -63,7 +64,7 @@ pub(crate) fn text_in(bytes: &[u8]) -> Option<&str> {
 /// Whether bytes are a text with a heading of a table in it.
 fn is_text(bytes: &[u8]) -> bool {
     match text_in(bytes) {
-        Some(text) => text.split('\n').any(|line| heading_in(line).is_some()),
+        Some(text) => text.pieces('\n').any(|line| heading_in(line).is_some()),
         None => false,
     }
 }

@@ -2,6 +2,7 @@
 //! A row of a table in the text of acpidump: its offset, a colon, and up to 16 pairs of hexadecimal digits.
 
 use crate::cli::number_of;
+use crate::rattle::Pieces;
 use crate::rattle::Vec;
 use crate::rattle::alloc::AllocError;
 
@@ -17,7 +18,7 @@ pub(crate) struct Row<'t> {
 /// The row that a line is, or `None` if it doesn't begin with one to eight hexadecimal digits, a colon and a
 /// space, after any spaces.
 pub(crate) fn row_in(line: &str) -> Option<Row<'_>> {
-    let (offset, pairs) = line.split_once(':')?;
+    let (offset, pairs) = line.two_pieces(':')?;
     let offset = number_of(offset.trim_start(), 16, 8)?;
     let pairs = pairs.strip_prefix(" ")?;
     Some(Row { offset, pairs: pairs.as_bytes() })

@@ -4,6 +4,7 @@
 
 use crate::cli::parse_address;
 use crate::input::row::{Row, push_pairs, row_in};
+use crate::rattle::Pieces;
 use crate::rattle::Vec;
 use crate::rattle::alloc::{AllocError, Global};
 
@@ -41,7 +42,7 @@ pub struct Reading {
 
 /// The first line of a text without its line feed, and what comes after that.
 pub(crate) fn first_line(text: &str) -> (&str, &str) {
-    match text.split_once('\n') {
+    match text.two_pieces('\n') {
         Some(parts) => parts,
         None => (text, ""),
     }
@@ -54,7 +55,7 @@ pub(crate) fn heading_in(line: &str) -> Option<u64> {
 
 /// What comes after the first `@` of a line, or nothing if it has none.
 fn after_at(line: &str) -> &str {
-    match line.split_once('@') {
+    match line.two_pieces('@') {
         Some((_, after)) => after,
         None => "",
     }
@@ -146,7 +147,7 @@ pub(crate) fn tables_in(alloc: Global, text: &str) -> Result<Vec<SpelledTable>, 
 /// What is wrong with the line of a number, counted from 1, which is the first wrong one of a text.
 pub(crate) fn why_wrong(alloc: Global, text: &str, number: usize) -> Result<&'static str, AllocError> {
     let mut is_inside = false; // whether a heading was before it, and no blank line after that
-    for (before, line) in text.split('\n').enumerate() {
+    for (before, line) in text.pieces('\n').enumerate() {
         if before + 1 == number {
             return reason_of(alloc, line, is_inside);
         }

@@ -1,6 +1,7 @@
 // Made by scripts/erase of crates/acpi_dump_walk/src/fields.rt, where it is proved.
 //! Fields, one a line: offset, name, value, meaning.
 
+use crate::rattle::Pieces;
 use crate::walk::language;
 use crate::walk::language::{Meaning, cut_at, next_word, number_at};
 use crate::walk::out::Out;
@@ -279,7 +280,7 @@ pub(crate) fn print_guid_digits(value: &[u8], out: &mut Out) {
 
 /// The name of the item that begins with a word, or no letters if none does.
 fn name_in(names: &'static str, wanted: &[u8]) -> &'static str {
-    for item in names.split('\n') {
+    for item in names.pieces('\n') {
         let (word, name) = next_word(item);
         if word.as_bytes() == wanted {
             return name;

@@ -33,6 +33,7 @@
 //! A word that isn't understood, and the name of a block that isn't there, is the fault `Unread`.
 //! `scripts/check_layouts` reads every layout, and so finds it before a table does.
 
+use crate::rattle::Pieces;
 use crate::walk::fault::Fault;
 use zacpi::sdt::field;
 
@@ -84,7 +85,7 @@ const MOST: usize = 40;
 
 /// A text up to its first separator, and the rest after that.
 pub fn cut_at(text: &str, separator: char) -> (&str, &str) {
-    text.split_once(separator).unwrap_or((text, ""))
+    text.two_pieces(separator).unwrap_or((text, ""))
 }
 
 /// The first word of a line, and what follows it.
@@ -118,7 +119,7 @@ pub(crate) fn factor_of(word: &str, bytes: &[u8]) -> Option<u64> {
 /// The product of the factors of a term.
 fn product_of(term: &str, bytes: &[u8]) -> Option<u64> {
     let mut product = 1u64;
-    for word in term.split('*') {
+    for word in term.pieces('*') {
         product = product.saturating_mul(factor_of(word, bytes)?);
     }
     Some(product)
@@ -127,8 +128,8 @@ fn product_of(term: &str, bytes: &[u8]) -> Option<u64> {
 /// The value of terms that are added or taken.
 fn total_of(word: &str, bytes: &[u8]) -> Option<u64> {
     let mut sum = 0u64;
-    for added in word.split('+') {
-        let (term, taken) = added.split_once('-').unwrap_or((added, "0"));
+    for added in word.pieces('+') {
+        let (term, taken) = added.two_pieces('-').unwrap_or((added, "0"));
         sum = sum.saturating_add(product_of(term, bytes)?);
         sum = sum.saturating_sub(product_of(taken, bytes)?);
     }
@@ -158,7 +159,7 @@ pub(crate) fn places_end(word: &str) -> usize {
 
 /// The first and the last number of a range, or the number of a word twice.
 fn range_of(word: &str) -> Option<(u64, u64)> {
-    let (first, last) = word.split_once('-').unwrap_or((word, word));
+    let (first, last) = word.two_pieces('-').unwrap_or((word, word));
     Some((number_of(first)?, number_of(last)?))
 }
 
@@ -212,7 +213,7 @@ impl Blocks {
     /// The blocks of a text.
     pub(crate) fn read(text: &'static str) -> Blocks {
         let mut list = [Block::NONE; MOST];
-        for (place, block) in list.iter_mut().zip(text.split('=').skip(1)) {
+        for (place, block) in list.iter_mut().zip(text.pieces('=').skip(1)) {
             *place = Block::read(block);
         }
         Blocks { list }

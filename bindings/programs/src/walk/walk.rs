@@ -4,6 +4,7 @@
 mod entry;
 mod parts;
 
+use crate::rattle::Pieces;
 use crate::rattle::alloc::Global;
 use crate::walk::aml::{Ends, Object, show_objects};
 use crate::walk::fault::Fault;
@@ -110,7 +111,7 @@ fn walk_lines<S: Show>(piece: Piece<'_>, lines: &'static str, from: usize, depth
     if depth == 0 {
         return shown;
     }
-    for line in lines.split('\n') {
+    for line in lines.pieces('\n') {
         match walk_line(piece, line, shown, depth - 1, show) {
             Ok(end) => shown = end,
             Err(fault) => show.malformed(piece.base, fault),

@@ -4,6 +4,7 @@
 use super::Document;
 use crate::dump::summary::{Member, Span, Value};
 use crate::json::{Token, is_number};
+use crate::rattle::Pieces;
 use crate::walk::language::cut_at;
 use crate::walk::out::Out;
 
@@ -118,7 +119,7 @@ fn add_meaning(document: &mut Document<'_>, name: &str, meaning: &str) {
 /// Adds numbers that come after spaces, and null for what isn't one.
 fn add_row(document: &mut Document<'_>, row: &str) {
     document.token(Token::BeginArray);
-    for word in row.split(' ') {
+    for word in row.pieces(' ') {
         if is_number(word) {
             document.token(Token::Number(word));
         } else if !word.is_empty() {

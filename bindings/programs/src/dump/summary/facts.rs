@@ -1,6 +1,7 @@
 // Made by scripts/erase of crates/acpi_dump_lib/src/summary/facts.rt, where it is proved.
 //! What a summary says: lines, and the objects of a document whose members are the numbers and the texts of the lines.
 
+use crate::rattle::Pieces;
 use crate::rattle::Vec;
 use crate::rattle::alloc::Global;
 use crate::walk::fields::size_of;
@@ -85,7 +86,7 @@ impl Facts {
     /// after `#` is printed in hexadecimal digits.
     pub(crate) fn words(&mut self, words: &'static str, numbers: &[u64]) {
         let mut rest = numbers;
-        for piece in words.split('}') {
+        for piece in words.pieces('}') {
             let (text, name) = cut_at(piece, '{');
             self.lines.text(text);
             if let [number, others @ ..] = rest

@@ -3,6 +3,7 @@
 
 use super::facts::{Facts, Value};
 use crate::input::entries::{Entry, own_signature};
+use crate::rattle::Pieces;
 use crate::walk::fields::{number_of, print_meaning, size_of};
 use crate::walk::language::{Meaning, cut_at, next_word, number_of as number_in};
 use crate::walk::out::Out;
@@ -40,7 +41,7 @@ CEDT 1 cxl_windows[]|CXL window|\tfrom #base=Base HPA| on, %length=Window Size\
 
 /// The subject and the line that a structure of this type has, or no letters if it has none.
 fn unit_of(table: &[u8], kind: Option<u64>) -> (&'static str, &'static str) {
-    for unit in UNITS.split('\n') {
+    for unit in UNITS.pieces('\n') {
         let (head, line) = cut_at(unit, '|');
         let (signature, rest) = next_word(head);
         let (wanted, subject) = next_word(rest);
@@ -53,7 +54,7 @@ fn unit_of(table: &[u8], kind: Option<u64>) -> (&'static str, &'static str) {
 
 /// Whether structures of a table have lines.
 fn has_units(table: &[u8]) -> bool {
-    for unit in UNITS.split('\n') {
+    for unit in UNITS.pieces('\n') {
         let (signature, _) = next_word(unit);
         if table.starts_with(signature.as_bytes()) {
             return true;

@@ -5,6 +5,7 @@ use super::escape::Piece::{Decimal, Text, Words};
 use super::escape::{print_escaped, print_html};
 use super::sheet::Sheet;
 use crate::compare::outline::{Item, Part};
+use crate::rattle::Pieces;
 use crate::walk::fields::{number_of, size_of};
 use crate::walk::language::cut_at;
 use crate::walk::out::Out;
@@ -52,7 +53,7 @@ APIC GIC I|5|box|ITS {GIC ITS ID} at {Physical Base Address}";
 
 /// The tile's kind, the class and the text that a line has for a structure, if it is drawn.
 pub(super) fn line_of(sheet: &Sheet<'_>, structure: &Part) -> Option<(&'static str, &'static str, &'static str)> {
-    for line in DRAWN.split('\n') {
+    for line in DRAWN.pieces('\n') {
         let (head, rest) = cut_at(line, '|');
         if is_named(sheet, structure, head) {
             let (kind, rest) = cut_at(rest, '|');
@@ -71,7 +72,7 @@ fn is_named(sheet: &Sheet<'_>, structure: &Part, head: &str) -> bool {
 
 /// Prints a text, in it what a structure and its fields have in the place of names in braces.
 pub(super) fn print_line(sheet: &Sheet<'_>, structure: usize, line: &'static str, out: &mut Out) {
-    for (place, piece) in line.split('{').enumerate() {
+    for (place, piece) in line.pieces('{').enumerate() {
         let (name, text) = cut_at(piece, '}');
         match sheet.side.parts.get(structure) {
             _ if place == 0 => out.text(name),

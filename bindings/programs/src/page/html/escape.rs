@@ -4,6 +4,7 @@
 use super::ids::Id;
 use crate::compare::outline::Item;
 use crate::input::status::Status;
+use crate::rattle::Pieces;
 use crate::walk::out::Out;
 use zacpi::sdt::Signature;
 
@@ -40,7 +41,7 @@ pub(super) enum Piece<'a> {
 
 /// Prints the skeleton of a part of a page, each `$` in it as the next of the pieces.
 pub(super) fn print_html(skeleton: &str, pieces: &[Piece<'_>], out: &mut Out) {
-    for (place, markup) in skeleton.split('$').enumerate() {
+    for (place, markup) in skeleton.pieces('$').enumerate() {
         if place > 0
             && let Some(piece) = pieces.get(place - 1)
         {

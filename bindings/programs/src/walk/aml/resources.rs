@@ -1,6 +1,7 @@
 // Made by scripts/erase of crates/acpi_dump_walk/src/aml/resources.rt, where it is proved.
 //! Descriptors of resources (section 6.4).
 
+use crate::rattle::Pieces;
 use crate::walk::fields::{name_of, number_of};
 use crate::walk::language::{cut_at, factor_of, number_at};
 use crate::walk::out::Out;
@@ -107,7 +108,7 @@ fn print_interrupts(descriptor: &[u8], out: &mut Out) {
 /// The numbers at up to four places of a descriptor: 0 for what isn't there.
 fn numbers_at(descriptor: &[u8], places: &str) -> [u64; 4] {
     let mut numbers = [0; 4];
-    for (number, place) in numbers.iter_mut().zip(places.split(' ')) {
+    for (number, place) in numbers.iter_mut().zip(places.pieces(' ')) {
         *number = factor_of(place, descriptor).unwrap_or(0);
     }
     numbers

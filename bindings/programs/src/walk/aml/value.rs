@@ -2,6 +2,7 @@
 //! The values of objects, as far as they are constants (section 20.2.3). AML is not run.
 
 use super::resources::print_resources;
+use crate::rattle::Pieces;
 use crate::walk::fields::{number_of, print_guid_digits, print_hex, print_segments};
 use crate::walk::out::Out;
 use zacpi::sleep::block::block_at;
@@ -231,7 +232,7 @@ fn print_region(parts: &[u8], out: &mut Out) {
     let [space, numbers @ ..] = parts else {
         return;
     };
-    match SPACES.split(' ').nth(*space as usize) {
+    match SPACES.pieces(' ').nth(*space as usize) {
         Some(name) => out.text(name),
         None => out.words("space #", &[*space as u64]),
     }

@@ -2,6 +2,7 @@
 //! The entries of a list in a structure, one by one.
 
 use super::parts::{Piece, after_zero};
+use crate::rattle::Pieces;
 use crate::walk::fault::Fault;
 use crate::walk::language::{Block, next_word, number_of, places_end, sum_of};
 
@@ -25,7 +26,7 @@ impl Entry {
 
 /// Whether lines are only fields at offsets, and of lengths, that no bytes tell.
 fn are_fixed(lines: &'static str) -> bool {
-    for line in lines.split('\n') {
+    for line in lines.pieces('\n') {
         let (offset, rest) = next_word(line);
         let (length, _) = next_word(rest);
         if !offset.is_empty() && (number_of(offset).is_none() || number_of(length).is_none()) {
