@@ -208,12 +208,13 @@ def functions_of(lines):
 
 
 def alone(lines, line):
-    """What is needed to compile the function of a line: the front, the static arrays, heads of the other functions."""
+    """What is needed to compile the function of a line: the front, the static arrays, what is inline, and the heads of
+    the other functions."""
     made, name = list(lines), None
     for named, place, body, end in functions_of(lines):
         if place <= line <= end:
             name = named
-        else:
+        elif not lines[place].startswith('INLINE'):
             made[body] = made[body][:-2] + ';'
             made[body + 1:end + 1] = [''] * (end - body)
     return '\n'.join([*made, f'const void *const kept = (const void *){name};', ''])

@@ -41,6 +41,7 @@ fn change_field(table: &mut Vec<u8>, name: &[u8; 4], how: u64, random: &mut Rand
             let (size, number) = (random.of(&[1, 1, 1, 2, 4, 8]), value(random));
             put(table, at, size, number);
         }
+        4 if random.one_in(3) => table[10 + random.index(14)] ^= 0x80, // OEMID and OEM Table ID are texts
         4 => table[at] ^= 1 << random.below(8),
         5 => {
             let at = HEADER + random.index(table.len() - HEADER + 1);

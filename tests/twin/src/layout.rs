@@ -44,7 +44,7 @@ pub fn lay(memory: &mut Memory, case: &Case) -> Laid {
     let accept = match layout.random.below(8) {
         0..5 => 0,
         5..7 => layout.random.below(4),
-        _ => layout.random.below(6),
+        _ => [0, 1, 2, 3, 4, 0x10001][layout.random.index(6)],
     };
     case.tables.iter().for_each(|table| layout.table(table));
     layout.point_fadts();
@@ -59,7 +59,11 @@ pub fn lay(memory: &mut Memory, case: &Case) -> Laid {
         address = random.of(&[0, address.wrapping_add(1), address ^ 16, any]);
     }
     let is_search = matches!(layout.start, 3 | 4);
-    let start = if random.one_in(60) { random.next() & 0xffff_ffff } else { layout.start };
+    let start = match random.below(60) {
+        0 => random.next() & 0xffff_ffff,
+        1 => layout.start | 1 << (3 + random.below(29)), // no start, but its lower bits are one
+        _ => layout.start,
+    };
     let mut source = [0; 32];
     let (regions, count) = memory.list();
     for (at, size, value) in [(0, 8, regions), (8, 8, count), (16, 8, address), (24, 4, start), (28, 4, accept)] {
@@ -91,7 +95,7 @@ impl Layout {
             random.of(&[0x1000, 0x10_0000, 0x7fe0_0000, 0xfff0_0000])
         };
         let next = base + random.of(&[0, 0, 64, 1]);
-        let is_huge = random.one_in(20);
+        let is_huge = random.one_in(if base >> 60 == 0 { 20 } else { 4 }); // which then ends too high
         let gap = random.of(&[0, 0, 1, 16, 16, 16, 64]);
         Layout {
             random, chunks: Vec::new(), next, gap, listed: Vec::new(), fadts: Vec::new(), dsdt: 0, facs: 0,
@@ -246,14 +250,16 @@ impl Layout {
             }
             area
         };
+        // some lack their last byte
+        let (is_short, is_shorter) = (at & 0x70 == 0x70, at & 0x70 == 0x60);
         if in_ebda || self.start == 3 {
-            self.chunks.push((ebda, area(0x400, in_ebda)));
+            self.chunks.push((ebda, area(0x400 - is_short as usize, in_ebda)));
         }
         if !in_ebda || self.start == 3 {
             let last = area(0x430, !in_ebda);
             let all = self.random.one_in(if self.start == 3 { 3 } else { 24 });
             let from = if all { 0xe0000 } else { self.random.of(&[0xe0000, 0xe8000, 0xffc00]) };
-            let length = if all { 0x20000 } else { 0x400 + self.random.index(64) };
+            let length = if all { 0x20000 - is_shorter as usize } else { 0x400 + self.random.index(64) };
             self.chunks.push((from, [last, vec![0; 0x20000]].concat()[..length].to_vec()));
         }
     }
