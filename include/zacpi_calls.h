@@ -349,6 +349,18 @@ ZACPI_STATUS zacpi_find_table(const struct zacpi_source *source, struct zacpi_si
     return zacpi_1_find_table(&kept_source, wanted, out, signature ? signature : &unasked);
 }
 
+zacpi_status ZACPI_CALL zacpi_1_get_table(const struct zacpi_source *source, uint64_t address,
+                                          struct zacpi_table *out,
+                                          struct zacpi_signature *signature);
+ZACPI_NONNULL((1, 3))
+ZACPI_STATUS zacpi_get_table(const struct zacpi_source *source, uint64_t address,
+                             struct zacpi_table *out, struct zacpi_signature *signature) {
+    const struct zacpi_source kept_source = zacpi_source_kept(source);
+    struct zacpi_signature unasked;
+    ZACPI_FITS;
+    return zacpi_1_get_table(&kept_source, address, out, signature ? signature : &unasked);
+}
+
 zacpi_status ZACPI_CALL zacpi_1_find_nth_table(const struct zacpi_source *source,
                                                struct zacpi_signature wanted, zacpi_number index,
                                                struct zacpi_table *out,
@@ -725,6 +737,21 @@ ZACPI_STATUS zacpi_list_processors(const struct zacpi_source *source, struct zac
                    ZACPI_COUNTED(count), signature ? signature : &unasked));
 }
 
+zacpi_status ZACPI_CALL zacpi_1_list_processors_from(const struct zacpi_source *source,
+                                                     zacpi_number from, struct zacpi_processor *out,
+                                                     zacpi_number capacity, zacpi_number *count,
+                                                     struct zacpi_signature *signature);
+ZACPI_NONNULL((1, 5))
+ZACPI_STATUS zacpi_list_processors_from(const struct zacpi_source *source, size_t from,
+                                        struct zacpi_processor *out, size_t capacity, size_t *count,
+                                        struct zacpi_signature *signature) {
+    const struct zacpi_source kept_source = zacpi_source_kept(source);
+    struct zacpi_signature unasked;
+    ZACPI_COUNTING(count, zacpi_1_list_processors_from(&kept_source, from,
+                   capacity ? out : (struct zacpi_processor *)ZACPI_NOTHING, capacity,
+                   ZACPI_COUNTED(count), signature ? signature : &unasked));
+}
+
 zacpi_status ZACPI_CALL zacpi_1_get_mailbox_address(const struct zacpi_source *source,
                                                     uint64_t *out,
                                                     struct zacpi_signature *signature);
@@ -852,6 +879,24 @@ ZACPI_STATUS zacpi_list_gic_cpu_interfaces(const struct zacpi_source *source,
     const struct zacpi_source kept_source = zacpi_source_kept(source);
     struct zacpi_signature unasked;
     ZACPI_COUNTING(count, zacpi_1_list_gic_cpu_interfaces(&kept_source,
+                   capacity ? out : (struct zacpi_gic_cpu_interface *)ZACPI_NOTHING, capacity,
+                   ZACPI_COUNTED(count), signature ? signature : &unasked));
+}
+
+zacpi_status ZACPI_CALL zacpi_1_list_gic_cpu_interfaces_from(const struct zacpi_source *source,
+                                                             zacpi_number from,
+                                                             struct zacpi_gic_cpu_interface *out,
+                                                             zacpi_number capacity,
+                                                             zacpi_number *count,
+                                                             struct zacpi_signature *signature);
+ZACPI_NONNULL((1, 5))
+ZACPI_STATUS zacpi_list_gic_cpu_interfaces_from(const struct zacpi_source *source, size_t from,
+                                                struct zacpi_gic_cpu_interface *out,
+                                                size_t capacity, size_t *count,
+                                                struct zacpi_signature *signature) {
+    const struct zacpi_source kept_source = zacpi_source_kept(source);
+    struct zacpi_signature unasked;
+    ZACPI_COUNTING(count, zacpi_1_list_gic_cpu_interfaces_from(&kept_source, from,
                    capacity ? out : (struct zacpi_gic_cpu_interface *)ZACPI_NOTHING, capacity,
                    ZACPI_COUNTED(count), signature ? signature : &unasked));
 }
@@ -1012,6 +1057,21 @@ ZACPI_STATUS zacpi_list_plics(const struct zacpi_source *source, struct zacpi_pl
                    ZACPI_COUNTED(count), signature ? signature : &unasked));
 }
 
+zacpi_status ZACPI_CALL zacpi_1_list_rintcs_from(const struct zacpi_source *source,
+                                                 zacpi_number from, struct zacpi_rintc *out,
+                                                 zacpi_number capacity, zacpi_number *count,
+                                                 struct zacpi_signature *signature);
+ZACPI_NONNULL((1, 5))
+ZACPI_STATUS zacpi_list_rintcs_from(const struct zacpi_source *source, size_t from,
+                                    struct zacpi_rintc *out, size_t capacity, size_t *count,
+                                    struct zacpi_signature *signature) {
+    const struct zacpi_source kept_source = zacpi_source_kept(source);
+    struct zacpi_signature unasked;
+    ZACPI_COUNTING(count, zacpi_1_list_rintcs_from(&kept_source, from,
+                   capacity ? out : (struct zacpi_rintc *)ZACPI_NOTHING, capacity,
+                   ZACPI_COUNTED(count), signature ? signature : &unasked));
+}
+
 zacpi_status ZACPI_CALL zacpi_1_list_memory_affinities(const struct zacpi_source *source,
                                                        struct zacpi_memory_affinity *out,
                                                        zacpi_number capacity, zacpi_number *count,
@@ -1039,6 +1099,24 @@ ZACPI_STATUS zacpi_list_processor_affinities(const struct zacpi_source *source,
     const struct zacpi_source kept_source = zacpi_source_kept(source);
     struct zacpi_signature unasked;
     ZACPI_COUNTING(count, zacpi_1_list_processor_affinities(&kept_source,
+                   capacity ? out : (struct zacpi_processor_affinity *)ZACPI_NOTHING, capacity,
+                   ZACPI_COUNTED(count), signature ? signature : &unasked));
+}
+
+zacpi_status ZACPI_CALL zacpi_1_list_processor_affinities_from(const struct zacpi_source *source,
+                                                               zacpi_number from,
+                                                               struct zacpi_processor_affinity *out,
+                                                               zacpi_number capacity,
+                                                               zacpi_number *count,
+                                                               struct zacpi_signature *signature);
+ZACPI_NONNULL((1, 5))
+ZACPI_STATUS zacpi_list_processor_affinities_from(const struct zacpi_source *source, size_t from,
+                                                  struct zacpi_processor_affinity *out,
+                                                  size_t capacity, size_t *count,
+                                                  struct zacpi_signature *signature) {
+    const struct zacpi_source kept_source = zacpi_source_kept(source);
+    struct zacpi_signature unasked;
+    ZACPI_COUNTING(count, zacpi_1_list_processor_affinities_from(&kept_source, from,
                    capacity ? out : (struct zacpi_processor_affinity *)ZACPI_NOTHING, capacity,
                    ZACPI_COUNTED(count), signature ? signature : &unasked));
 }

@@ -149,7 +149,8 @@ pub(crate) fn split_whole<'a, const KINDS: usize>(
     grammar: &Grammar<KINDS>,
     bytes: &'a [u8],
 ) -> Option<(&'a [u8], &'a [u8])> {
-    if bytes.is_empty() {
+    // Entries to their end have a length, or there are none: tested so, it isn't tested again where it is read.
+    if bytes.len() < end_of(grammar.layout.length_place) {
         return None;
     }
     let size = number_there(grammar.layout.length_place, bytes);

@@ -3,7 +3,7 @@
 //! Services.
 
 use crate::base::bytes::has_bit;
-use crate::lists::lists::{Listing, fill};
+use crate::lists::lists::{Listing, fill_part};
 use crate::lists::numa_records::{GenericInitiator, ItsAffinity, MemoryAffinity, ProcessorAffinity};
 use crate::lists::opening::first;
 use crate::lists::records::Source;
@@ -26,9 +26,14 @@ impl<R: SratRecord> Listing<(), R> for SratEntryIter<'_> {
 
 /// Lists what the entries of one type of the first valid SRAT put into domains.
 pub fn srat_entries<R: SratRecord>(source: &Source<'_>, out: &mut [R]) -> Result<usize, Refusal> {
+    srat_entries_from(source, 0, out)
+}
+
+/// Lists from the `from`-th on, counted from 0, what the entries of one type of the first valid SRAT put into domains.
+pub fn srat_entries_from<R: SratRecord>(source: &Source<'_>, from: usize, out: &mut [R]) -> Result<usize, Refusal> {
     let memory = Mapped::new(source.regions);
     let srat = first::<Srat>(&memory, source)?;
-    Ok(fill(Domains::over(srat.bytes()).entries(), &(), out))
+    Ok(fill_part(Domains::over(srat.bytes()).entries(), &(), from, out))
 }
 
 // Memory (section 5.2.16.2). A range that ends at 2^64 or above is none.

@@ -7,7 +7,7 @@ use crate::acpi::platform::interrupt::NmiProcessor;
 use crate::base::bytes::{bits, field};
 use crate::base::madt::{MadtEntry, MadtEntryIter};
 use crate::lists::interrupt_records::{InterruptSourceOverride, IoApic, NmiLine, NmiSource, Processor};
-use crate::lists::lists::{Listing, fill};
+use crate::lists::lists::{Listing, fill, fill_part};
 use crate::lists::opening::first;
 use crate::lists::records::Source;
 use crate::lists::refusal::Refusal;
@@ -86,16 +86,23 @@ fn fill_entries<R: MadtRecord>(table: &[u8], out: &mut [R]) -> usize {
 
 /// Lists the processors, the boot processor first.
 pub fn processors(source: &Source<'_>, out: &mut [Processor]) -> Result<usize, Refusal> {
-    let memory = Mapped::new(source.regions);
-    let madt = apics(&memory, source)?;
-    Ok(fill_processors(madt.bytes(), out))
+    processors_from(source, 0, out)
 }
 
-/// Writes the processors of a MADT, the boot processor first.
-fn fill_processors(table: &[u8], out: &mut [Processor]) -> usize {
+/// Lists the processors from the `from`-th on, counted from 0: the first of all is the boot processor.
+pub fn processors_from(source: &Source<'_>, from: usize, out: &mut [Processor]) -> Result<usize, Refusal> {
+    let memory = Mapped::new(source.regions);
+    let madt = apics(&memory, source)?;
+    Ok(fill_processors(madt.bytes(), from, out))
+}
+
+/// Writes the processors of a MADT from the `from`-th on. The first of all is the boot processor.
+fn fill_processors(table: &[u8], from: usize, out: &mut [Processor]) -> usize {
     let revision = field(table, 8, 1) as u8; // Revision
-    let count = fill(MadtEntryIter::over(table), &revision, out);
-    boot_first(out, count);
+    let count = fill_part(MadtEntryIter::over(table), &revision, from, out);
+    if from == 0 {
+        boot_first(out, count);
+    }
     count
 }
 

@@ -7,8 +7,11 @@ use crate::lists::refusal::Refusal;
 #[repr(C)]
 #[derive(Clone, Copy, Debug, Default, PartialEq, Eq)]
 pub struct EntryFault {
+    /// Address: of the entry, or where none begins.
     pub address: u64,
+    /// Status: its error.
     pub status: u32,
+    /// Type of the entry, or there; 0 at the table's end.
     pub entry_type: u16,
 }
 

@@ -10,7 +10,7 @@ use crate::arm::gic::{
 use crate::base::bytes::field;
 use crate::base::madt::{MadtEntry, MadtEntryIter};
 use crate::lists::arm_records as records;
-use crate::lists::lists::{Listing, fill};
+use crate::lists::lists::{Listing, fill_part};
 use crate::lists::opening::first;
 use crate::lists::records::{Range, Source};
 use crate::lists::refusal::Refusal;
@@ -90,14 +90,19 @@ pub trait GicRecord: Copy {
 
 /// Lists the parts of one sort of the GIC that the first valid MADT describes.
 pub fn parts<R: GicRecord>(source: &Source<'_>, out: &mut [R]) -> Result<usize, Refusal> {
-    let memory = Mapped::new(source.regions);
-    let madt = gic_madt(&memory, source)?;
-    Ok(fill_parts(madt.bytes(), out))
+    parts_from(source, 0, out)
 }
 
-fn fill_parts<R: GicRecord>(table: &[u8], out: &mut [R]) -> usize {
+/// Lists from the `from`-th on, counted from 0, the parts of one sort of the GIC that the first valid MADT describes.
+pub fn parts_from<R: GicRecord>(source: &Source<'_>, from: usize, out: &mut [R]) -> Result<usize, Refusal> {
+    let memory = Mapped::new(source.regions);
+    let madt = gic_madt(&memory, source)?;
+    Ok(fill_parts(madt.bytes(), from, out))
+}
+
+fn fill_parts<R: GicRecord>(table: &[u8], from: usize, out: &mut [R]) -> usize {
     let revision = field(table, 8, 1) as u8;
-    fill(MadtEntryIter::over(table), &revision, out)
+    fill_part(MadtEntryIter::over(table), &revision, from, out)
 }
 
 impl<R: GicRecord> Listing<u8, R> for MadtEntryIter<'_> {

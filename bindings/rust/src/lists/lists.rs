@@ -26,6 +26,20 @@ pub(crate) fn fill_from<R: Copy, C, W: Listing<C, R>>(walk: W, known: &C, out: &
     count
 }
 
+/// Writes the records of a walk's items from the `from`-th on, counted from 0, and counts all.
+pub(crate) fn fill_part<R: Copy, C, W: Listing<C, R>>(walk: W, known: &C, from: usize, out: &mut [R]) -> usize {
+    let mut all = 0;
+    for item in walk {
+        if let Some(record) = W::record(known, item) {
+            if all >= from {
+                put(out, all - from, record);
+            }
+            all += 1;
+        }
+    }
+    all
+}
+
 /// Writes the records of a walk's items, and counts them.
 pub(crate) fn fill<R: Copy, C, W: Listing<C, R>>(walk: W, known: &C, out: &mut [R]) -> usize {
     fill_from(walk, known, out, 0)

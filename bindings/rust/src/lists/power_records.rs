@@ -8,10 +8,15 @@ use crate::lists::records::Register;
 #[repr(C)]
 #[derive(Clone, Copy, Debug, Default, PartialEq, Eq)]
 pub struct Step {
+    /// At: present.
     pub at: Register,
+    /// The bits that are looked at or set.
     pub mask: u32,
+    /// What the bits are to be.
     pub value: u32,
+    /// Width: of one access, in bits: 8 or 16.
     pub width: u8,
+    /// Kind: of `enum zacpi_step_kind`.
     pub kind: u8,
 }
 
@@ -19,7 +24,9 @@ pub struct Step {
 #[repr(C)]
 #[derive(Clone, Copy, Debug, Default, PartialEq, Eq)]
 pub struct Plan {
+    /// Steps: zeros from `count` on.
     pub steps: [Step; 8],
+    /// The number of steps.
     pub count: u32,
 }
 
@@ -27,6 +34,8 @@ pub struct Plan {
 #[repr(C)]
 #[derive(Clone, Copy, Debug, Default, PartialEq, Eq)]
 pub struct SleepTypes {
+    /// SLP_TYPa: the value for the first control register.
     pub a: u8,
+    /// SLP_TYPb: the value for the second control register.
     pub b: u8,
 }

@@ -8,7 +8,9 @@ use crate::lists::regions::Region;
 #[repr(C)]
 #[derive(Clone, Copy, Debug, Default, PartialEq, Eq)]
 pub struct Range {
+    /// The physical address.
     pub address: u64,
+    /// The number of bytes.
     pub length: u64,
 }
 
@@ -16,9 +18,14 @@ pub struct Range {
 #[repr(C)]
 #[derive(Clone, Copy, Debug, Default, PartialEq, Eq)]
 pub struct Source<'a> {
+    /// The regions of memory, which may not overlap.
     pub regions: &'a [Region<'a>],
+    /// Address: where to start; a search doesn't look at it.
     pub address: u64,
+    /// Start: one of `enum zacpi_start`.
     pub start: u32,
+    /// Accept: 0, or bits of `enum zacpi_accept`: a root table, a listed table or a DSDT is valid if it has no other
+    /// error. An RSDP may have none.
     pub accept: u32,
 }
 
@@ -26,7 +33,9 @@ pub struct Source<'a> {
 #[repr(C)]
 #[derive(Clone, Copy, Debug, Default, PartialEq, Eq)]
 pub struct Place {
+    /// Which region it is in, from 0 on.
     pub region: usize,
+    /// The offset of the byte in the region.
     pub offset: usize,
 }
 
@@ -34,6 +43,7 @@ pub struct Place {
 #[repr(C)]
 #[derive(Clone, Copy, Debug, Default, PartialEq, Eq)]
 pub struct Signature {
+    /// Letters: as "APIC", without a zero after it.
     pub letters: [u8; 4],
 }
 
@@ -41,11 +51,17 @@ pub struct Signature {
 #[repr(C)]
 #[derive(Clone, Copy, Debug, Default, PartialEq, Eq)]
 pub struct Root {
+    /// The physical address.
     pub address: u64,
+    /// The number of bytes.
     pub length: u32,
+    /// Revision: of the RSDP; 0 if opened at an RSDT, 2 if at an XSDT.
     pub revision: u8,
+    /// Pointer width: 4 for an RSDT, 8 for an XSDT.
     pub pointer_width: u8,
+    /// RSDP address: 0 if opened at a root table, and so is the length.
     pub rsdp_address: u64,
+    /// Length; at revision 0, which lacks it, 20, though 36 bytes have to be mapped there too.
     pub rsdp_length: u32,
 }
 
@@ -53,11 +69,17 @@ pub struct Root {
 #[repr(C)]
 #[derive(Clone, Copy, Debug, Default, PartialEq, Eq)]
 pub struct Rsdp {
+    /// The physical address.
     pub address: u64,
+    /// Xsdt address: 0 at revision 0, which lacks it.
     pub xsdt_address: u64,
+    /// RsdtAddress.
     pub rsdt_address: u32,
+    /// Length: as rsdp_length of `struct zacpi_root`.
     pub length: u32,
+    /// Revision.
     pub revision: u8,
+    /// OEMID.
     pub oem_id: [u8; 6],
 }
 
@@ -65,14 +87,23 @@ pub struct Rsdp {
 #[repr(C)]
 #[derive(Clone, Copy, Debug, Default, PartialEq, Eq)]
 pub struct Table {
+    /// The physical address.
     pub address: u64,
+    /// The number of bytes.
     pub length: u32,
+    /// Signature.
     pub signature: [u8; 4],
+    /// Revision.
     pub revision: u8,
+    /// OEMID.
     pub oem_id: [u8; 6],
+    /// OEM Table ID.
     pub oem_table_id: [u8; 8],
+    /// OEM Revision.
     pub oem_revision: u32,
+    /// Creator ID: of the program that wrote the table.
     pub creator_id: [u8; 4],
+    /// Creator Revision: of the program that wrote the table.
     pub creator_revision: u32,
 }
 
@@ -80,8 +111,11 @@ pub struct Table {
 #[repr(C)]
 #[derive(Clone, Copy, Debug, Default, PartialEq, Eq)]
 pub struct Member {
+    /// Table: zeros but for the address unless has_header.
     pub table: Table,
+    /// Status: 0, or if zacpi_list_tables skips it its first error of zacpi_open's order that `accept` doesn't take.
     pub status: u32,
+    /// Has header: 0: the 36 bytes of a header aren't mapped there.
     pub has_header: u8,
 }
 
@@ -89,8 +123,12 @@ pub struct Member {
 #[repr(C)]
 #[derive(Clone, Copy, Debug, Default, PartialEq, Eq)]
 pub struct Fault {
+    /// The physical address.
     pub address: u64,
+    /// Status: why it isn't valid: ZACPI_MAP_FAILED or a ZACPI_SDT_ error, but for ZACPI_SDT_INVALID_SIGNATURE. Of
+    /// several the first of zacpi_open's order that `accept` doesn't take, or if it takes all, the first.
     pub status: u32,
+    /// Accepted: 1: it isn't skipped, by `accept` of the source.
     pub accepted: u8,
 }
 
@@ -98,10 +136,15 @@ pub struct Fault {
 #[repr(C)]
 #[derive(Clone, Copy, Debug, Default, PartialEq, Eq)]
 pub struct Walk {
+    /// First: the first entry's offset in the table.
     pub first: u32,
+    /// The offset of Type in an entry.
     pub type_offset: u8,
+    /// The width of Type, in bytes: 1, 2 or 4.
     pub type_width: u8,
+    /// The offset of Length in an entry.
     pub length_offset: u8,
+    /// The width of Length, in bytes: 1, 2 or 4.
     pub length_width: u8,
 }
 
@@ -109,8 +152,11 @@ pub struct Walk {
 #[repr(C)]
 #[derive(Clone, Copy, Debug, Default, PartialEq, Eq)]
 pub struct Entry {
+    /// The physical address.
     pub address: u64,
+    /// Type of the entry.
     pub entry_type: u32,
+    /// Length: with Type and Length.
     pub length: u32,
 }
 
@@ -118,9 +164,13 @@ pub struct Entry {
 #[repr(C)]
 #[derive(Clone, Copy, Debug, Default, PartialEq, Eq)]
 pub struct AmlTable {
+    /// Address: of the byte after the table's header.
     pub address: u64,
+    /// Length less 36.
     pub length: u32,
+    /// Revision: of a DSDT: below 2 integers have 32 bits, else 64.
     pub revision: u8,
+    /// The physical address of the table.
     pub table_address: u64,
 }
 
@@ -128,10 +178,15 @@ pub struct AmlTable {
 #[repr(C)]
 #[derive(Clone, Copy, Debug, Default, PartialEq, Eq)]
 pub struct GenericAddress {
+    /// Address: in its space.
     pub address: u64,
+    /// Space: of `enum zacpi_address_space`.
     pub space: u8,
+    /// Register Bit Width.
     pub bit_width: u8,
+    /// Register Bit Offset.
     pub bit_offset: u8,
+    /// Access size: 0 unspecified, 1 one byte, 2 two, 3 four, 4 eight.
     pub access_size: u8,
 }
 
@@ -139,7 +194,9 @@ pub struct GenericAddress {
 #[repr(C)]
 #[derive(Clone, Copy, Debug, Default, PartialEq, Eq)]
 pub struct Register {
+    /// At: zeros unless it is present.
     pub at: GenericAddress,
+    /// Present: 0: none. 1: it is `at`. 2: its address is an error.
     pub present: u8,
 }
 
@@ -147,8 +204,11 @@ pub struct Register {
 #[repr(C)]
 #[derive(Clone, Copy, Debug, Default, PartialEq, Eq)]
 pub struct PmTimer {
+    /// X_PM_TMR_BLK or PM_TMR_BLK.
     pub base: GenericAddress,
+    /// Present: 0: there is none, and all else is 0.
     pub present: u8,
+    /// TMR_VAL_EXT: it counts in 32 bits, else in 24.
     pub is_32_bit: u8,
 }
 
@@ -156,10 +216,16 @@ pub struct PmTimer {
 #[repr(C)]
 #[derive(Clone, Copy, Debug, Default, PartialEq, Eq)]
 pub struct HpetInfo {
+    /// The physical address of its registers.
     pub base_address: u64,
+    /// Event Timer Block ID.
     pub event_timer_block_id: u32,
+    /// Main Counter Minimum Clock_tick in Periodic Mode.
     pub clock_tick_unit: u16,
+    /// HPET Number.
     pub number: u8,
+    /// Page protection: bits 0 to 3: 0 nothing is promised, 1 the 4 KiB may be accessed, 2 the 64 KiB, 3 reserved (3 to
+    /// 15).
     pub page_protection: u8,
 }
 
@@ -167,11 +233,17 @@ pub struct HpetInfo {
 #[repr(C)]
 #[derive(Clone, Copy, Debug, Default, PartialEq, Eq)]
 pub struct BootGraphic {
+    /// The physical address.
     pub address: u64,
+    /// Image Offset X, in pixels.
     pub x: u32,
+    /// Image Offset Y, in pixels.
     pub y: u32,
+    /// Orientation Offset, bits 1 and 2 of Status: in degrees, clockwise, 0, 90, 180 or 270.
     pub orientation: u16,
+    /// Displayed: bit 0 of Status: it is on the screen still.
     pub displayed: u8,
+    /// Image type: 0: a bitmap. 1: another code, which is reserved.
     pub image_type: u8,
 }
 
@@ -179,12 +251,19 @@ pub struct BootGraphic {
 #[repr(C)]
 #[derive(Clone, Copy, Debug, Default, PartialEq, Eq)]
 pub struct Facs {
+    /// The physical address.
     pub address: u64,
+    /// X_Firmware_Waking_Vector.
     pub waking_vector_64: u64,
+    /// The number of bytes.
     pub length: u32,
+    /// Hardware Signature.
     pub hardware_signature: u32,
+    /// Firmware_Waking_Vector.
     pub waking_vector: u32,
+    /// Flags: bit 0 S4BIOS_F, 1 64BIT_WAKE_SUPPORTED_F.
     pub flags: u32,
+    /// Version.
     pub version: u8,
 }
 
@@ -192,8 +271,12 @@ pub struct Facs {
 #[repr(C)]
 #[derive(Clone, Copy, Debug, Default, PartialEq, Eq)]
 pub struct PciRegion {
+    /// Base address: where bus 0 of the segment group would be.
     pub base_address: u64,
+    /// PCI segment group.
     pub segment_group: u16,
+    /// Start Bus Number.
     pub first_bus: u8,
+    /// End Bus Number.
     pub last_bus: u8,
 }

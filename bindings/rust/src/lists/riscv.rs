@@ -3,7 +3,7 @@
 //! entries of the MADT.
 
 use crate::acpi::madt::Madt;
-use crate::lists::lists::{Listing, fill};
+use crate::lists::lists::{Listing, fill_part};
 use crate::lists::opening::first;
 use crate::lists::records::Source;
 use crate::lists::refusal::Refusal;
@@ -26,16 +26,23 @@ impl<R: RiscvRecord> Listing<(), R> for RiscvEntryIter<'_> {
 ///
 /// Fails as `first` does, and then with `NoRiscv` if it has none of any of these types.
 pub fn riscv_entries<R: RiscvRecord>(source: &Source<'_>, out: &mut [R]) -> Result<usize, Refusal> {
+    riscv_entries_from(source, 0, out)
+}
+
+/// Lists the entries of one type of the first valid MADT from the `from`-th on, counted from 0.
+///
+/// Fails as `riscv_entries` does.
+pub fn riscv_entries_from<R: RiscvRecord>(source: &Source<'_>, from: usize, out: &mut [R]) -> Result<usize, Refusal> {
     let memory = Mapped::new(source.regions);
     let madt = first::<Madt>(&memory, source)?;
     if RiscvEntryIter::over(madt.bytes()).next().is_none() {
         return Err(Refusal::NoRiscv);
     }
-    Ok(fill_entries(madt.bytes(), out))
+    Ok(fill_entries(madt.bytes(), from, out))
 }
 
-fn fill_entries<R: RiscvRecord>(table: &[u8], out: &mut [R]) -> usize {
-    fill(RiscvEntryIter::over(table), &(), out)
+fn fill_entries<R: RiscvRecord>(table: &[u8], from: usize, out: &mut [R]) -> usize {
+    fill_part(RiscvEntryIter::over(table), &(), from, out)
 }
 
 impl RiscvRecord for Rintc {

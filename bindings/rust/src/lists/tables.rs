@@ -4,8 +4,9 @@
 use crate::acpi::sdt::{SdtHeader, Signature};
 use crate::acpi::{Accept, AcpiHandler, AcpiResult, AcpiTables, PhysicalMapping, PhysicalRecord, Pointers};
 use crate::base::bytes::filled;
+use crate::base::table::own_valid_by;
 use crate::lists::lists::{Listing, fill};
-use crate::lists::opening::{find_fadt, open};
+use crate::lists::opening::{check_policy, find_fadt, open};
 use crate::lists::records::{self, AmlTable, Source, Table};
 use crate::lists::refusal::Refusal;
 use crate::lists::regions::Mapped;
@@ -45,6 +46,14 @@ pub fn find(source: &Source<'_>, name: records::Signature) -> Result<Table, Refu
     let memory = Mapped::new(source.regions)?;
     let tables = open(&memory, source)?;
     let table = tables.find_sdt(signature_named(name))?;
+    Ok(entry(&table))
+}
+
+/// The table at an address, listed or not. Of a source only the regions and what it accepts count.
+pub fn table_there(source: &Source<'_>, address: u64) -> Result<Table, Refusal> {
+    let memory = Mapped::new(source.regions)?;
+    check_policy(source)?;
+    let table = own_valid_by(&memory, address, source.accept)?.mapping::<SdtHeader>();
     Ok(entry(&table))
 }
 

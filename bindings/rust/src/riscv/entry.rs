@@ -111,6 +111,10 @@ pub enum RiscvEntry {
 impl RiscvEntry {
     /// Whether an entry is of one of these types and has fewer bytes than its layout: 20, 16, 36 and 36 for types 0x18
     /// to 0x1b.
+    ///
+    /// # Panics
+    ///
+    /// Panics if there is no byte.
     pub fn is_short(entry: &[u8]) -> bool {
         entry.len() < least_of(entry[0])
     }

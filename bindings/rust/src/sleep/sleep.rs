@@ -38,6 +38,10 @@ pub enum SleepAnswer {
 /// defines ends with the call of it, so that bodies of methods at the root don't matter.
 ///
 /// Fails with an `AmlError` where the walk meets bytes that are no AML.
+///
+/// # Panics
+///
+/// Panics if `state` is above 207, where overflow is checked.
 pub fn sleep_types(aml: &[u8], state: u8) -> Result<SleepAnswer, AmlError> {
     let mut place = Place::after(None, 0);
     let mut unseen: Option<usize> = None;

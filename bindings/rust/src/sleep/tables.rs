@@ -89,6 +89,10 @@ fn dsdt_answer<H: Lender>(tables: &AcpiTables<'_, H>, state: u8) -> Result<Sleep
 /// The result of the AML of a table of a signature, by the table's bytes: the AML is after the header.
 ///
 /// Fails with `Aml` where the walk ends.
+///
+/// # Panics
+///
+/// Panics if `state` is above 207, where overflow is checked.
 pub fn block_answer(signature: Signature, state: u8, table: &[u8]) -> Result<SleepAnswer, SleepError> {
     match sleep_types(skip(table, 36), state) {
         Ok(answer) => Ok(answer),

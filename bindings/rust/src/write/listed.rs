@@ -11,6 +11,10 @@ pub trait Listed {
     fn size(&self, ids: &TableIds) -> Result<usize, WriterError>;
 
     /// Puts the table in place of all bytes of a slice that is as long.
+    ///
+    /// # Panics
+    ///
+    /// May panic if the slice has another length.
     fn put(&self, out: &mut [u8], ids: &TableIds);
 }
 

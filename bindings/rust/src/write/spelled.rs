@@ -9,6 +9,10 @@ pub trait Spelled {
     fn measure(&self, room: usize) -> Option<usize>;
 
     /// Puts its bytes in place of all bytes of a slice that is as long.
+    ///
+    /// # Panics
+    ///
+    /// May panic if the slice has another length.
     fn put(&self, out: &mut [u8]);
 }
 

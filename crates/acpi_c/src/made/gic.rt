@@ -1,11 +1,11 @@
 //! Made by scripts/exports of include/zacpi.h, which has what each call does.
-ghost use Rattle.acpi_c_lib.specs.Words.{Answers, AnswersList, below_gic, cpu_interfaces_shown, distributor_below, msi_frames_shown, redistributors_shown, translation_services_shown};
+ghost use Rattle.acpi_c_lib.specs.Words.{Answers, AnswersList, AnswersListFrom, below_gic, cpu_interfaces_shown, distributor_below, msi_frames_shown, redistributors_shown, translation_services_shown};
 
 use acpi_c_lib::answer::answer;
 use acpi_c_lib::arm_records::{
     GicCpuInterface, GicDistributor, GicMsiFrame, GicTranslationService,
 };
-use acpi_c_lib::gic::{distributor, parts};
+use acpi_c_lib::gic::{distributor, parts, parts_from};
 use acpi_c_lib::records::{Range, Signature, Source};
 
 /// Returns the distributor of the first GICD.
@@ -32,6 +32,21 @@ pub extern "C" fn zacpi_1_list_gic_cpu_interfaces(
         (below_gic source.now cpu_interfaces_shown) }
 {
     answer(parts(source, out), count, named)
+}
+
+/// Lists the items of zacpi_list_gic_cpu_interfaces from the `from`-th on, from 0 on.
+#[unsafe(no_mangle)]
+pub extern "C" fn zacpi_1_list_gic_cpu_interfaces_from(
+    source: &Source<'_>,
+    from: usize,
+    out: &mut [GicCpuInterface],
+    count: &mut usize,
+    named: &mut Signature,
+) -> u32
+    ensures { AnswersListFrom from result out.old out.new count.old count.new named.old named.new
+        (below_gic source.now cpu_interfaces_shown) }
+{
+    answer(parts_from(source, from, out), count, named)
 }
 
 /// Lists the memory that contains redistributors.

@@ -1,9 +1,9 @@
 //! Made by scripts/exports of include/zacpi.h, which has what each call does.
-ghost use Rattle.acpi_c_lib.specs.Words.{Answers, AnswersList, AtSamePlaces, CountsBeside, below_apics, below_known, below_platform, counts_of, io_apic_in, isa_below, isa_list_below, items_beside, local_apic_below, madt_faults_below, mailbox_below, nmi_line_in, nmi_source_in, override_in, pin_below, processors_below, put_from, sci_below};
+ghost use Rattle.acpi_c_lib.specs.Words.{Answers, AnswersList, AnswersListFrom, AtSamePlaces, CountsBeside, below_apics, below_known, below_platform, counts_of, io_apic_in, isa_below, isa_list_below, items_beside, local_apic_below, madt_faults_below, mailbox_below, nmi_line_in, nmi_source_in, override_in, pin_below, processors_below, put_from, sci_below};
 ghost use Rattle.std.specs.Prelude.{filter_map, ◌≡◌};
 
 use acpi_c_lib::answer::answer;
-use acpi_c_lib::apics::{entries, mailbox, processors};
+use acpi_c_lib::apics::{entries, mailbox, processors, processors_from};
 use acpi_c_lib::entry_faults::EntryFault;
 use acpi_c_lib::interrupt_records::{
     Interrupt, InterruptModel, InterruptSourceOverride, IoApic, IoApicPin, IsaInterrupts,
@@ -109,6 +109,21 @@ pub extern "C" fn zacpi_1_list_processors(
     ensures { AnswersList result out.old out.new count.old count.new named.old named.new (processors_below source.now) }
 {
     answer(processors(source, out), count, named)
+}
+
+/// Lists the items of zacpi_list_processors from the `from`-th on, from 0 on.
+#[unsafe(no_mangle)]
+pub extern "C" fn zacpi_1_list_processors_from(
+    source: &Source<'_>,
+    from: usize,
+    out: &mut [Processor],
+    count: &mut usize,
+    named: &mut Signature,
+) -> u32
+    ensures { AnswersListFrom from result out.old out.new count.old count.new named.old named.new
+        (processors_below source.now) }
+{
+    answer(processors_from(source, from, out), count, named)
 }
 
 /// Returns MailBoxAddress of the first Multiprocessor Wakeup: the address of the mailbox by which processors are woken

@@ -1,7 +1,7 @@
 //! Made by scripts/exports of include/zacpi.h, which has what each call does.
-ghost use Rattle.acpi_c_lib.specs.Words.{Answers, AnswersList, AnswersSome, IsLocalities, affinity_shown, below_srat, distance_below, domain_of_address_below, domain_of_apic_below, domain_of_processor_below, initiator_shown, its_shown, memory_shown, slit_in, srat_faults_below};
+ghost use Rattle.acpi_c_lib.specs.Words.{Answers, AnswersList, AnswersListFrom, AnswersSome, IsLocalities, affinity_shown, below_srat, distance_below, domain_of_address_below, domain_of_apic_below, domain_of_processor_below, initiator_shown, its_shown, memory_shown, slit_in, srat_faults_below};
 
-use acpi_c_lib::affinities::srat_entries;
+use acpi_c_lib::affinities::{srat_entries, srat_entries_from};
 use acpi_c_lib::answer::answer;
 use acpi_c_lib::entry_faults::EntryFault;
 use acpi_c_lib::numa::{
@@ -41,6 +41,21 @@ pub extern "C" fn zacpi_1_list_processor_affinities(
         (below_srat source.now affinity_shown) }
 {
     answer(srat_entries(source, out), count, named)
+}
+
+/// Lists the items of zacpi_list_processor_affinities from the `from`-th on, from 0 on.
+#[unsafe(no_mangle)]
+pub extern "C" fn zacpi_1_list_processor_affinities_from(
+    source: &Source<'_>,
+    from: usize,
+    out: &mut [ProcessorAffinity],
+    count: &mut usize,
+    named: &mut Signature,
+) -> u32
+    ensures { AnswersListFrom from result out.old out.new count.old count.new named.old named.new
+        (below_srat source.now affinity_shown) }
+{
+    answer(srat_entries_from(source, from, out), count, named)
 }
 
 /// Lists the generic initiators that the SRAT puts into domains: its entries of Type 5 that are enabled, up to where no

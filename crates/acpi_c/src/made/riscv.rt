@@ -1,9 +1,9 @@
 //! Made by scripts/exports of include/zacpi.h, which has what each call does.
-ghost use Rattle.acpi_c_lib.specs.Words.{AnswersList, aplic_in, below_riscv, imsic_in, plic_in, rintc_in};
+ghost use Rattle.acpi_c_lib.specs.Words.{AnswersList, AnswersListFrom, aplic_in, below_riscv, imsic_in, plic_in, rintc_in};
 
 use acpi_c_lib::answer::answer;
 use acpi_c_lib::records::{Signature, Source};
-use acpi_c_lib::riscv::riscv_entries;
+use acpi_c_lib::riscv::{riscv_entries, riscv_entries_from};
 use acpi_riscv::{Aplic, Imsic, Plic, Rintc};
 
 /// Each lists the MADT's entries of one Type, up to where none begins, since Length is above the bytes left or below
@@ -68,4 +68,19 @@ pub extern "C" fn zacpi_1_list_plics(
         (below_riscv source.now plic_in) }
 {
     answer(riscv_entries(source, out), count, named)
+}
+
+/// Lists the items of zacpi_list_rintcs from the `from`-th on, from 0 on.
+#[unsafe(no_mangle)]
+pub extern "C" fn zacpi_1_list_rintcs_from(
+    source: &Source<'_>,
+    from: usize,
+    out: &mut [Rintc],
+    count: &mut usize,
+    named: &mut Signature,
+) -> u32
+    ensures { AnswersListFrom from result out.old out.new count.old count.new named.old named.new
+        (below_riscv source.now rintc_in) }
+{
+    answer(riscv_entries_from(source, from, out), count, named)
 }

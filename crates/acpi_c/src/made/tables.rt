@@ -1,6 +1,6 @@
 //! Made by scripts/exports of include/zacpi.h, which has what each call does.
 ghost use Rattle.acpi_base.specs.FromStd.{result_unwrap_or};
-ghost use Rattle.acpi_c_lib.specs.Words.{Answers, AnswersList, AnswersPlain, dsdt_below, entries_below, entries_said, faults_below, left_said, members_below, missing_below, nth_below, ranges_below, result_map, root_below, rsdp_below, source_of_rsdp, ssdts_below, table_below, tables_below};
+ghost use Rattle.acpi_c_lib.specs.Words.{Answers, AnswersList, AnswersPlain, dsdt_below, entries_below, entries_said, faults_below, left_said, members_below, missing_below, nth_below, ranges_below, result_map, root_below, rsdp_below, source_of_rsdp, ssdts_below, table_below, table_there, tables_below};
 ghost use Rattle.std.specs.Prelude.{◌≡◌};
 
 use acpi_c_lib::answer::{answer, answer_plain};
@@ -14,7 +14,7 @@ use acpi_c_lib::records::{
     AmlTable, Entry, Fault, Member, Range, Root, Rsdp, Signature, Source, Table, Walk,
 };
 use acpi_c_lib::rsdp::rsdp;
-use acpi_c_lib::tables::{dsdt, find, ssdts, tables};
+use acpi_c_lib::tables::{dsdt, find, ssdts, table_there, tables};
 use acpi_c_lib::walks::{nth, ranges};
 
 /// Makes the root table that a copy of the RSDP points to (multiboot2's tags 14 and 15) the start of `source`, whose
@@ -99,6 +99,20 @@ pub extern "C" fn zacpi_1_find_table(
     ensures { Answers result out.old out.new named.old named.new (table_below source.now name) }
 {
     answer(find(source, name), out, named)
+}
+
+/// Returns the header of the table at an address, listed or not, as the root table's or the DSDT's; `start` isn't
+/// looked at.
+#[unsafe(no_mangle)]
+pub extern "C" fn zacpi_1_get_table(
+    source: &Source<'_>,
+    address: u64,
+    out: &mut Table,
+    named: &mut Signature,
+) -> u32
+    ensures { Answers result out.old out.new named.old named.new (table_there source.now address) }
+{
+    answer(table_there(source, address), out, named)
 }
 
 /// Returns the `index`-th valid table of the wanted signature, from 0 on (section 5.2.6).

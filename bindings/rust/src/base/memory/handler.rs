@@ -60,6 +60,10 @@ pub trait PhysicalRecord: Sized {
     const MIN_LENGTH: usize;
 
     /// The record that bytes mean, of which there are at least `MIN_LENGTH`.
+    ///
+    /// # Panics
+    ///
+    /// May panic if there are fewer than `MIN_LENGTH` bytes.
     fn read(bytes: &[u8]) -> Self;
 }
 

@@ -129,7 +129,7 @@ pub fn accepted_at<'h, H: Lender, T: AcpiTable>(
     if has_bit(accept as u64, 0) || has_bit(accept as u64, 1) {
         claim_accepted::<H, T>(head, accept)
     } else {
-        claim_valid::<H, T>(head)
+        return claim_valid::<H, T>(head);
     }
 }
 

@@ -3,7 +3,7 @@
 
 use crate::lists::answer::answer;
 use crate::lists::arm_records::{GicCpuInterface, GicDistributor, GicMsiFrame, GicTranslationService};
-use crate::lists::gic::{distributor, parts};
+use crate::lists::gic::{distributor, parts, parts_from};
 use crate::lists::records::{Range, Signature, Source};
 
 /// Returns the distributor of the first GICD.
@@ -27,6 +27,20 @@ pub extern "C" fn zacpi_1_list_gic_cpu_interfaces(
 ) -> u32 {
     let out = unsafe { core::slice::from_raw_parts_mut(out, out_length) };
     answer(parts(source, out), count, named)
+}
+
+/// Lists the items of zacpi_list_gic_cpu_interfaces from the `from`-th on, from 0 on.
+#[unsafe(no_mangle)]
+pub extern "C" fn zacpi_1_list_gic_cpu_interfaces_from(
+    source: &Source<'_>,
+    from: usize,
+    out: *mut GicCpuInterface,
+    out_length: usize,
+    count: &mut usize,
+    named: &mut Signature,
+) -> u32 {
+    let out = unsafe { core::slice::from_raw_parts_mut(out, out_length) };
+    answer(parts_from(source, from, out), count, named)
 }
 
 /// Lists the memory that contains redistributors.

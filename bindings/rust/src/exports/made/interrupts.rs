@@ -2,7 +2,7 @@
 //! Made by scripts/exports of include/zacpi.h, which has what each call does.
 
 use crate::lists::answer::answer;
-use crate::lists::apics::{entries, mailbox, processors};
+use crate::lists::apics::{entries, mailbox, processors, processors_from};
 use crate::lists::entry_faults::EntryFault;
 use crate::lists::interrupt_records::{
     Interrupt, InterruptModel, InterruptSourceOverride, IoApic, IoApicPin, IsaInterrupts, LocalApic, NmiLine,
@@ -96,6 +96,20 @@ pub extern "C" fn zacpi_1_list_processors(
 ) -> u32 {
     let out = unsafe { core::slice::from_raw_parts_mut(out, out_length) };
     answer(processors(source, out), count, named)
+}
+
+/// Lists the items of zacpi_list_processors from the `from`-th on, from 0 on.
+#[unsafe(no_mangle)]
+pub extern "C" fn zacpi_1_list_processors_from(
+    source: &Source<'_>,
+    from: usize,
+    out: *mut Processor,
+    out_length: usize,
+    count: &mut usize,
+    named: &mut Signature,
+) -> u32 {
+    let out = unsafe { core::slice::from_raw_parts_mut(out, out_length) };
+    answer(processors_from(source, from, out), count, named)
 }
 
 /// Returns MailBoxAddress of the first Multiprocessor Wakeup: the address of the mailbox by which processors are woken

@@ -1,7 +1,7 @@
 // Made by scripts/erase of crates/acpi_c/src/made/numa.rt, where it is proved.
 //! Made by scripts/exports of include/zacpi.h, which has what each call does.
 
-use crate::lists::affinities::srat_entries;
+use crate::lists::affinities::{srat_entries, srat_entries_from};
 use crate::lists::answer::answer;
 use crate::lists::entry_faults::EntryFault;
 use crate::lists::numa::{distance, domain_of_address, domain_of_apic, domain_of_processor, localities};
@@ -35,6 +35,20 @@ pub extern "C" fn zacpi_1_list_processor_affinities(
 ) -> u32 {
     let out = unsafe { core::slice::from_raw_parts_mut(out, out_length) };
     answer(srat_entries(source, out), count, named)
+}
+
+/// Lists the items of zacpi_list_processor_affinities from the `from`-th on, from 0 on.
+#[unsafe(no_mangle)]
+pub extern "C" fn zacpi_1_list_processor_affinities_from(
+    source: &Source<'_>,
+    from: usize,
+    out: *mut ProcessorAffinity,
+    out_length: usize,
+    count: &mut usize,
+    named: &mut Signature,
+) -> u32 {
+    let out = unsafe { core::slice::from_raw_parts_mut(out, out_length) };
+    answer(srat_entries_from(source, from, out), count, named)
 }
 
 /// Lists the generic initiators that the SRAT puts into domains: its entries of Type 5 that are enabled, up to where no

@@ -3,7 +3,7 @@
 
 use crate::lists::answer::answer;
 use crate::lists::records::{Signature, Source};
-use crate::lists::riscv::riscv_entries;
+use crate::lists::riscv::{riscv_entries, riscv_entries_from};
 use crate::riscv::{Aplic, Imsic, Plic, Rintc};
 
 /// Each lists the MADT's entries of one Type, up to where none begins, since Length is above the bytes left or below
@@ -64,4 +64,18 @@ pub extern "C" fn zacpi_1_list_plics(
 ) -> u32 {
     let out = unsafe { core::slice::from_raw_parts_mut(out, out_length) };
     answer(riscv_entries(source, out), count, named)
+}
+
+/// Lists the items of zacpi_list_rintcs from the `from`-th on, from 0 on.
+#[unsafe(no_mangle)]
+pub extern "C" fn zacpi_1_list_rintcs_from(
+    source: &Source<'_>,
+    from: usize,
+    out: *mut Rintc,
+    out_length: usize,
+    count: &mut usize,
+    named: &mut Signature,
+) -> u32 {
+    let out = unsafe { core::slice::from_raw_parts_mut(out, out_length) };
+    answer(riscv_entries_from(source, from, out), count, named)
 }

@@ -10,7 +10,7 @@ use crate::lists::missing::missing;
 use crate::lists::opening::root;
 use crate::lists::records::{AmlTable, Entry, Fault, Member, Range, Root, Rsdp, Signature, Source, Table, Walk};
 use crate::lists::rsdp::rsdp;
-use crate::lists::tables::{dsdt, find, ssdts, tables};
+use crate::lists::tables::{dsdt, find, ssdts, table_there, tables};
 use crate::lists::walks::{nth, ranges};
 
 /// Makes the root table that a copy of the RSDP points to (multiboot2's tags 14 and 15) the start of `source`, whose
@@ -84,6 +84,13 @@ pub extern "C" fn zacpi_1_find_table(
     named: &mut Signature,
 ) -> u32 {
     answer(find(source, name), out, named)
+}
+
+/// Returns the header of the table at an address, listed or not, as the root table's or the DSDT's; `start` isn't
+/// looked at.
+#[unsafe(no_mangle)]
+pub extern "C" fn zacpi_1_get_table(source: &Source<'_>, address: u64, out: &mut Table, named: &mut Signature) -> u32 {
+    answer(table_there(source, address), out, named)
 }
 
 /// Returns the `index`-th valid table of the wanted signature, from 0 on (section 5.2.6).

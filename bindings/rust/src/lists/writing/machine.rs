@@ -17,14 +17,23 @@ use crate::write::{
 /// What a table is to contain that is written from a record of C's.
 #[derive(Clone, Copy)]
 pub enum Contents<'a> {
+    /// A FADT.
     Fadt(FixedHardware),
+    /// A MADT of a machine with APICs.
     Madt(MadtContents<'a>),
+    /// An MCFG.
     Mcfg(&'a [PciRegion]),
+    /// An HPET.
     Hpet(HpetInfo),
+    /// An SRAT.
     Srat(SratContents<'a>),
+    /// A BGRT.
     Bgrt(BootGraphic),
+    /// An SPCR.
     Spcr(SpcrContents),
+    /// A GTDT.
     Gtdt(GtdtContents<'a>),
+    /// A MADT of a machine with a GIC.
     Gic(GicContents<'a>),
 }
 

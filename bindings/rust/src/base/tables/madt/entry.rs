@@ -131,7 +131,8 @@ impl MadtEntry {
             0x0d => MadtEntry::GicMsiFrame(GicMsiFrameEntry::read(entry)),
             0x0e => MadtEntry::GicRedistributor(GicRedistributorEntry::read(entry)),
             0x0f => MadtEntry::GicInterruptTranslationService(GicInterruptTranslationServiceEntry::read(entry)),
-            _ => MadtEntry::MultiprocessorWakeup(MultiprocessorWakeupEntry::read(entry)),
+            0x10 => MadtEntry::MultiprocessorWakeup(MultiprocessorWakeupEntry::read(entry)),
+            _ => unreachable!(),
         }
     }
 }

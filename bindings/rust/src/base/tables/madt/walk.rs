@@ -26,12 +26,16 @@ impl<'a> MadtEntryIter<'a> {
     /// Entries of other types are stepped over.
     #[inline(always)]
     fn split_defined(&mut self) -> Option<(&'a [u8], &'a [u8])> {
-        // Most entries come this way; joined with the other one before the split, it would take longer.
+        // Most entries come the first way. Each way has a split of its own, next to its test of the type: joined before
+        // the split they would take longer, and `read` would have to test for other types.
         if begins_defined(self.rest) {
             return split_front(&MADT_GRAMMAR, self.rest);
         }
         self.rest = past_others(self.rest);
-        split_front(&MADT_GRAMMAR, self.rest)
+        if begins_defined(self.rest) {
+            return split_front(&MADT_GRAMMAR, self.rest);
+        }
+        None
     }
 
     /// Whether `next` has answered `None` before the table's end, where no entry begins (section 5.2.12).
