@@ -32,6 +32,7 @@ class Debug:
         if node not in self.parsed:
             self.parsed[node] = {key: quoted or plain for key, quoted, plain in
                                  FIELD.findall(self.text.get(node, ('', ''))[1])}
+            self.parsed[node]['node'] = node
         return self.parsed[node]
 
     def field(self, node, key):
@@ -105,6 +106,7 @@ def named_functions(text, debug):
 
 class Types:
     """What debug information says of the layout of types."""
+    FEW = 3
 
     def __init__(self, debug):
         self.debug = debug
@@ -129,6 +131,8 @@ class Types:
         if fields.get('tag') == 'DW_TAG_array_type':
             item = fields.get('baseType')
             length = self.size(item)
+            if offset == 0 and size == self.size(kind) > length:
+                return [], kind
             found = self.part(item, offset % length, size) if length else None
             return found and ([f'[{offset // length}]', *found[0]], found[1])
         members = [self.debug.fields(one) for one in self.debug.items(fields.get('elements'))]
@@ -141,13 +145,10 @@ class Types:
     def member(self, fields, offset, size):
         """The same in a member of a type, or in the variants of an enum, if all that have it agree."""
         if fields.get('tag') == 'DW_TAG_variant_part':
-            variants = [self.debug.fields(one) for one in self.debug.items(fields.get('elements'))]
-            found = [self.part(one.get('baseType'), offset, size) for one in variants]
-            found = [one for one in found if one and one[0]]
-            if found and all(one[0] == found[0][0] for one in found):
-                return found[0]
             tag = self.debug.fields(fields.get('discriminator'))
-            return (['kind'], tag.get('baseType')) if self.is_at(tag, offset, size) else None
+            if self.is_at(tag, offset, size):
+                return ['kind'], fields['node']
+            return self.of_variants(fields, offset, size)
         begin = int(fields.get('offset') or 0) // 8
         if not begin <= offset <= offset + size <= begin + self.size(fields.get('baseType')):
             return None
@@ -155,6 +156,20 @@ class Types:
         name = fields.get('name', '')
         own = [] if re.match(r'__\d+$|data_ptr$', name) else [name]
         return found and ([*own, *found[0]], found[1])
+
+    def of_variants(self, fields, offset, size):
+        """The same in what the variants of an enum have beside their number: the payload, if that is of several that
+        have no names for it, and of few that do the names of each."""
+        found = {}
+        for node in self.debug.items(fields.get('elements')):
+            part = self.part(self.debug.field(node, 'baseType'), offset, size)
+            if part:
+                found.setdefault('.'.join(part[0]) or self.debug.field(node, 'name'), part)
+        if len(found) == 1:
+            (name, (names, kind)), = found.items()
+            return names or [name], kind
+        has_names = all(names and names != ['payload'] for names, _ in found.values())
+        return ([('|'.join(found) if has_names and len(found) <= self.FEW else 'payload')], None) if found else None
 
     @staticmethod
     def is_at(member, offset, size):

@@ -8,8 +8,9 @@ import sys
 from pathlib import Path
 
 sys.dont_write_bytecode = True
-from ir2c_text import ELEMENT, KNOWN
+from ir2c_text import ELEMENT, KNOWN, split
 from rust_debug import GLOBAL, REGISTER, Debug, Types
+from rust_notes import Notes, width
 from rust_pointers import address_of, with_numbers
 from rust_wide import without_wide
 
@@ -19,17 +20,11 @@ DULL = {'self', 'x', 'ptr', 'value', 'val', 'data', 'n', 'v', 'f', 'rhs', 'lhs',
 # What LLVM's passes name values by.
 MADE = {'or', 'spec', 'not', 'cond', 'narrow', 'switch', 't', 'wide', 'brmerge', 'sh', 'tr', 'umin', 'indvars',
         'exitcond'}
-WIDTHS = {'ptr': 8, 'i1': 1}
 # What is put to the name of the first value that another is made of. What isn't here has that name itself.
 SUFFIXES = {'add': '_sum', 'sub': '_less', 'mul': '_times', 'udiv': '_divided', 'urem': '_rest', 'getelementptr': '_at',
             'icmp': '_compared', 'xor': '_flipped', 'or': '_joined'}
 NAMED_BY = {'zext', 'sext', 'trunc', 'freeze', 'phi', 'select', 'and', 'lshr', 'ashr', 'shl', 'insertvalue', 'ptrtoint',
             'inttoptr', 'extractvalue', *SUFFIXES}
-
-
-def width(kind):
-    """The bytes of a value in memory."""
-    return WIDTHS.get(kind) or (int(kind[1:]) + 7) // 8 if re.match(r'ptr$|i\d+$', kind) else 0
 
 
 STEP = rf'\s+({REGISTER}) = getelementptr {KNOWN}({ELEMENT}), ptr ({REGISTER}), i64 (\S+?),?(?: |$)'
@@ -40,16 +35,17 @@ class Variable:
     PATTERN = re.compile(rf'\s+#dbg_(value|declare)\((\S+) ({REGISTER}), (!\d+), !DIExpression\(([^)]*)\), (!\d+)\)')
 
     def __init__(self, debug, types, how, kind, node, expression, location):
-        self.kind, self.word = None, None
+        self.kind, self.word, self.of = None, None, None
         name, of = debug.field(node, 'name'), debug.field(node, 'type')
         fragment = re.fullmatch(r'DW_OP_LLVM_fragment, (\d+), (\d+)', expression)
         if not name or expression and not fragment:
             return
         offset, size = (int(fragment[1]) // 8, int(fragment[2]) // 8) if fragment else (0, types.size(of))
         part = types.part(of, offset, size)
-        suffix = [re.sub(r'\W', '', one) for one in part[0]] if part else [f'at{offset}'] if offset else []
+        suffix = [re.sub(r'\W+', '_', one).strip('_') for one in part[0]] if part else [f'at{offset}'] if offset else []
         # A struct of one member is the member.
         suffix = suffix if fragment else []
+        self.of = part[1] if fragment and part else None if fragment else of
         self.kind = of if how == 'declare' else types.pointee(part[1]) if part and kind == 'ptr' else None
         self.word = '_'.join([re.sub(r'\W', '_', name), *suffix])
         scope = debug.field(node, 'scope')
@@ -60,7 +56,7 @@ class Variable:
 class Registers:
     """The names of a function's registers, and what they point to."""
 
-    def __init__(self, debug, types, head, body, returned):
+    def __init__(self, debug, types, head, body, passed):
         self.debug, self.types = debug, types
         self.variables, self.kinds, self.roots = {}, {}, {}
         self.read_variables(body)
@@ -70,7 +66,8 @@ class Registers:
         self.result = place and place[1]
         if place:
             self.kinds.setdefault(place[1], types.returned(re.search(r'!dbg (!\d+)', head)[1]))
-        self.read_pointers(body, returned)
+        for _ in range(2):  # what is copied may be known later
+            self.read_pointers(body, passed)
         self.words = self.all_words(body)
 
     def read_variables(self, body):
@@ -86,7 +83,7 @@ class Registers:
                 for one in (register, address_of(register)):
                     self.kinds.setdefault(one, variable.kind)
 
-    def read_pointers(self, body, returned):
+    def read_pointers(self, body, passed):
         """What registers point to that no variable is: places in others, results, what is read from a member."""
         for line in body:
             step = re.match(STEP, line)
@@ -95,31 +92,58 @@ class Registers:
                 self.roots[step[1]] = root, offset + int(step[4])
             elif step and step[3] in self.kinds:
                 self.kinds.setdefault(step[1], self.kinds[step[3]])
-            call = re.match(rf'.*call .*?({GLOBAL})\(ptr [^%]*sret\([^()]*\)[^%]*({REGISTER})', line)
-            if call and call[1] in returned:
-                self.kinds.setdefault(call[2], returned[call[1]])
+            call = re.match(rf'.*\bcall [^@]*({GLOBAL})\((.*)\)', line)
+            for kind, given in zip(passed.get(call[1], ()) if call else (), split(call[2]) if call else ()):
+                if kind and re.search(rf'{REGISTER}$', given):
+                    self.kinds.setdefault(re.search(rf'{REGISTER}$', given)[0], kind)
+            self.read_copy(line)
             load = re.match(rf'\s+({REGISTER}) = load ptr, ptr ({REGISTER}),', line)
             part = self.member(load[2], 8) if load else None
             if part and self.types.pointee(part[1]):
                 self.kinds.setdefault(load[1], self.types.pointee(part[1]))
+
+    def read_copy(self, line):
+        """A place that is copied as a whole has the type of what it is copied from or to."""
+        copy = re.match(rf'.*@llvm\.memcpy\.\S+\(ptr [^%]*({REGISTER}), ptr [^%@]*({REGISTER}), i64 (\d+),', line)
+        for one, other in ((copy[1], copy[2]), (copy[2], copy[1])) if copy else ():
+            if one in self.kinds and other not in self.roots and self.types.size(self.kinds[one]) == int(copy[3]):
+                self.kinds.setdefault(other, self.kinds[one])
 
     def member(self, register, size):
         """The member of so many bytes that a register points to: its names and its type."""
         root, offset = self.roots.get(register, (register, 0))
         if register in self.kinds:
             root, offset = register, 0
-        return self.types.part(self.kinds[root], offset, size) if root in self.kinds else None
+        length = self.types.size(self.kinds[root]) if root in self.kinds else 0
+        if not length:
+            return None
+        if offset >= length:  # a later one of several
+            part = self.types.part(self.kinds[root], offset % length, size)
+            return part and ([f'[{offset // length}]', *part[0]], part[1])
+        return self.types.part(self.kinds[root], offset, size)
 
     def field(self, register, size):
         """The same as a text: out.processors.length; with `..` if it is the first of those that the bytes are of."""
         root, _ = self.roots.get(register, (register, 0))
         root = register if register in self.kinds else root
-        parts = [(self.member(register, one), one) for one in (size, 4, 2, 1) if one <= size]
-        part, found = next(((part, one) for part, one in parts if part and part[0]), (None, 0))
+        parts = [(self.member(register, one), one) for one in (size, 8, 4, 2, 1) if one <= size]
+        part, found = next(((part, one) for part, one in parts if part and part[0]), parts[0])
         if not part:
-            return ''
-        names = '.'.join([self.words.get(root, root)[1:].split('.')[0], *part[0]])
+            return self.around(register)
+        word = self.words.get(root, root)[1:].split('.')[0]
+        if not part[0]:
+            return f'*{word}'
+        names = '.'.join([word, *part[0]])
         return re.sub(r'\.\[', '[', names) + ('' if found == size else ' ..')
+
+    def around(self, register):
+        """The name of the member that a place is within, as a text."""
+        root, offset = self.roots.get(register, (register, 0))
+        for size in (8, 4, 2):
+            part = self.types.part(self.kinds[root], offset - offset % size, size) if root in self.kinds else None
+            if part and part[0]:
+                return '.'.join(['..', *part[0]]).replace('...', '.. ').replace('.[', '[') + ' ..'
+        return ''
 
     def all_words(self, body):
         """The name of each register: its variable's, or what it is made of, and a number."""
@@ -146,9 +170,8 @@ class Registers:
     def made_of(self, line, plain):
         """A name by what a value is made of, if that has one."""
         load = re.match(rf'load (\S+), ptr ({REGISTER}),', line)
-        part = self.member(load[2], width(load[1])) if load else None
-        if part and part[0]:
-            return re.sub(r'\W', '', [one for one in part[0] if one[0] != '['][-1:][0] if part[0][-1][0] != '[' else '')
+        if load:
+            return self.read_from(load[1], load[2], plain)
         call = re.search(rf'\bcall .*?({GLOBAL})\(', line)
         if call and not call[1].startswith('@llvm.'):
             return re.sub(r'(\.\d+)*$', '', call[1]).split('.')[-1]
@@ -158,6 +181,17 @@ class Registers:
         first = next((plain[one] for one in re.findall(REGISTER, line) if plain.get(one, 't') != 't'), '')
         suffix = SUFFIXES.get(operation, '')
         return first + suffix if first and not first.endswith(tuple(SUFFIXES.values())) else first
+
+    def read_from(self, kind, pointer, plain):
+        """A name of what is read: the member's, or what it is read from and how far from there."""
+        part = self.member(pointer, width(kind))
+        if part and part[0] and part[0][-1][0] != '[':
+            return re.sub(r'\W+', '_', part[0][-1])
+        root, offset = self.roots.get(pointer, (pointer, 0))
+        word = plain.get(root, 't')
+        if word == 't':
+            return ''
+        return f'{word[:-3]}_item' if word.endswith('_at') else f'{word}_at{offset}'
 
     def renamed(self, text):
         """A text with the names; labels keep theirs."""
@@ -199,28 +233,71 @@ def plain(line):
     return re.sub(r', ![\w.]+ (?:!\d+|!DI\w+\([^)]*\))|, !srcloc !\d+', '', line)
 
 
-def function_lines(head, body, debug, types, sources, returned):
+def function_lines(head, body, known, sources, counts):
     """The lines of a function, with its names and notes."""
-    registers, lines = Registers(debug, types, head, body, returned), []
+    debug, types, passed = known
+    registers, lines = Registers(debug, types, head, body, passed), []
     node = re.search(r'!dbg (!\d+)', head)
     file, number = (debug.file(node[1]), debug.field(node[1], 'line')) if node else ('', 0)
     if file.startswith('src/'):
         lines += [f';# {line}' for line in sources.documentation(file, int(number))]
     lines.append(registers.renamed(re.sub(r' personality ptr @\S+| !dbg !\d+', '', head)))
+    notes, switch, values = Notes(registers, body), None, []
     for line in body:
         if line.lstrip().startswith('#dbg_') or not line.startswith(' '):
             lines += [] if line.lstrip().startswith('#dbg_') else [line]
             continue
+        text, case = registers.renamed(plain(line)), re.match(r'    i\d+ (-?\d+), label', line)
+        if case or text.rstrip().endswith('['):  # a switch, whose notes come after its last line
+            switch, values = (switch, [*values, case[1]]) if case else (re.search(REGISTER, line)[0], [])
+            lines.append(text)
+            continue
         location = re.search(r'!dbg (!\d+)', line)
         place = debug.place(location[1]) if location else None
-        store = re.match(rf'\s+store (\S+) .*, ptr ({REGISTER}), align', line)
-        field = registers.field(store[2], width(store[1])) if store else ''
-        text = registers.renamed(plain(line))
-        if not text.rstrip().endswith('[') and not re.match(r'    i\d+ -?\d+, label', text):
-            text += f' ;@{sources.note(place)}' if place else ' ;@' if field else ''
-            text += f' ;={field}' if field else ''
-        lines.append(text)
+        note = notes.note(line) if line.strip()[0] != ']' else notes.switch(switch, values)
+        text += f' ;@{sources.note(place)}' if place else ' ;@' if note else ''
+        lines.append(text + (f' ;={note}' if note else ''))
+    counts.add(registers, body, notes)
     return lines + ['}']
+
+
+class Counts:
+    """How many values have a name of the source or of what they are made of, and how many stores into what has a known
+    type the member's; at least LEAST of a hundred have to, or the file isn't one to read."""
+    LEAST = 90
+
+    def __init__(self):
+        self.values, self.stores = [0, 0], [0, 0]
+
+    def add(self, registers, body, notes):
+        for word in registers.words.values():
+            self.values[word.startswith('%t.')] += 1
+        for line in body:
+            store = re.match(rf'\s+store .*, ptr ({REGISTER}), align', line)
+            if store and {store[1], registers.roots.get(store[1], ('',))[0]} & set(registers.kinds):
+                self.stores[not notes.note(line)] += 1
+
+    def failed(self):
+        of = {'values have a name': self.values, 'stores into a known type name the member': self.stores}
+        for what, (named, other) in of.items():
+            print(f'{100 * named / (named + other):.1f} % of {named + other} {what}')
+        return any(100 * named < self.LEAST * (named + other) for named, other in of.values())
+
+
+def passed_kinds(debug, types, head, body):
+    """The name of a function, and for each of its parameters the type that it points to, if that is known."""
+    name, given = re.search(rf'({GLOBAL})\((.*)\)', head).groups()
+    node, kinds = re.search(r'!dbg (!\d+)', head), {}
+    for line in body:
+        found = Variable.PATTERN.match(line)
+        if found:
+            how, kind, register, *rest = found.groups()
+            variable = Variable(debug, types, how, kind, *rest)
+            if variable.kind:
+                kinds.setdefault(register, variable.kind)
+    arguments = [(re.search(rf'{REGISTER}$', one)[0], 'sret(' in one) for one in split(given)]
+    result = types.returned(node[1]) if node else None
+    return name, [result if is_result else kinds.get(one) for one, is_result in arguments]
 
 
 ABOUT = [';! The library for C, which scripts/regenerate made of the Rust package bindings/rust, by way of LLVM. That is',
@@ -243,18 +320,21 @@ def main():
     text = Path(module).read_text(encoding='utf-8')
     debug, sources = Debug(text), Sources(folder)
     types = Types(debug)
-    returned = {name: types.returned(node) for name, node in
-                re.findall(rf'^define [^@]*({GLOBAL})\(.*!dbg (!\d+) ?\{{$', text, re.M)}
-    made, lines = list(ABOUT), iter(text.split('\n'))
+    lines, functions, made = iter(text.split('\n')), [], list(ABOUT)
     for line in lines:
         if line.startswith('define'):
-            body = with_numbers(list(iter(lambda: next(lines), '}')))
-            made += without_wide(function_lines(line, body, debug, types, sources, returned))
+            functions.append((line, list(iter(lambda: next(lines), '}'))))
         elif line.startswith(('@', '%', 'attributes')):
             made.append(plain(line))
+    counts = Counts()
+    passed = {name: kinds for name, kinds in (passed_kinds(debug, types, *one) for one in functions)}
+    for head, body in functions:
+        made += without_wide(function_lines(head, with_numbers(body), (debug, types, passed), sources, counts))
     names = data_names(text, debug)
     made = [re.sub(GLOBAL, lambda found: names.get(found[0], found[0]), line) if '@' in line else line for line in made]
     Path(to).write_text('\n'.join(made) + '\n', encoding='utf-8')
+    return counts.failed()
 
 
-main()
+if __name__ == '__main__':
+    sys.exit(main())
