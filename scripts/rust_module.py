@@ -5,6 +5,7 @@ package before LLVM's passes.
 - core's functions that end a program in a panic do nothing: no call of theirs is reached, which Rattle proves of
   the same text. They are those of PANICS, and each is printed with the number of its calls. Another function that isn't
   defined, and isn't among NEEDED, is an error.
+- Each function returns, which Rattle proves too: a call of one whose result nobody needs can go.
 - Functions have the names of the sources. Those of MARKED are made a part of their callers, or not, as scripts/dist has
   it; each pattern has to match.
 - Whether there are vectors is left to whoever compiles the C."""
@@ -60,6 +61,13 @@ def marked(text):
     return text
 
 
+def returning(text):
+    """The module in which each function that it defines returns."""
+    groups = set(re.findall(r'(?m)^define .* #(\d+) ', text))
+    return re.sub(r'(?m)^attributes #(\d+) = \{ ',
+                  lambda found: found[0] + ('mustprogress willreturn ' if found[1] in groups else ''), text)
+
+
 def asked_for_vectors(text):
     """The module in which has_vectors is anyone's."""
     text, count = re.subn(rf'(?m)^define [^\n]*(@{VECTORS})\((?s:.*?)^\}}$',
@@ -75,7 +83,7 @@ def main():
     names = named_functions(text, Debug(text))
     text = re.sub(GLOBAL, lambda found: names.get(found[0], found[0]), text)
     with open(to, 'w', encoding='utf-8') as file:
-        file.write(asked_for_vectors(marked(text)))
+        file.write(asked_for_vectors(marked(returning(text))))
     for name, count in sorted(calls.items()):
         print(f'{name}: {count} calls that are not reached')
 
