@@ -55,6 +55,7 @@ impl OpenOptions {
         self
     }
 
+    #[cfg_attr(not(unix), allow(unused_mut))]
     pub fn mode(mut self, mode: u32) -> OpenOptions {
         #[cfg(unix)]
         std::os::unix::fs::OpenOptionsExt::mode(&mut self.0, mode);
