@@ -117,6 +117,7 @@ static const struct row rows[] = {
     NOTHING(list_missing_ranges, LENT_TABLES), /* they come after the RSDP that is taken */
     GOOD(list_missing_ranges, RSDP_LONG, NULL, NO, 1, AT(RSDP_LONG), SIZE),
     GOOD(list_missing_ranges, RSDP_LOST, NULL, NO, 1, 0x300000000, 36),
+    GOOD(list_missing_ranges, NO_REGIONS, NULL, NO, 1, AT(EMPTY), 36),
     GOOD(list_missing_ranges, RSDP_CUT, NULL, NO, 1, CUT(2), 52),
     NOTHING(list_missing_ranges, RSDP_SHORT),
     /* Of the DSDT and the FACS the headers are lent. */
