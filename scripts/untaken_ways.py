@@ -17,7 +17,7 @@ from untaken_memory import Memory, State, arrays_in
 from validate_terms import POINTER, Refused, number, simple
 from validate_values import C, Value, plain, to, truth, usual, width_of
 
-EFFORT = 2_000_000  # what z3 may spend on one question, which doesn't depend on the machine
+EFFORT = 3_000_000  # what z3 may spend on one question, which doesn't depend on the machine
 CHANGES = re.compile(r'\b(?:store|memcpy|memset|memmove|copy|copy_most|copy_few|move|fill)\w*\(|\] = ')
 
 
