@@ -213,7 +213,8 @@ impl Inputs {
         let random = &mut chance.random;
         let is_code = field.name.ends_with("polarity") || field.name.ends_with("trigger");
         if field.name.ends_with("kind") && chance.nice != 0 {
-            number = random.below(2);
+            let any = random.below(24);
+            number = any / 12 | ((any % 12 == 0) as u64) << 16; // also none, whose lower bits are one
         } else if field.name.ends_with("space") && random.one_in(2) {
             number = random.of(&[0, 1, 2, 3, 4, 5, 6, 7, 8, 9, 10, 11, 127, 192, 255]);
         } else if is_code && chance.nice != 0 {
