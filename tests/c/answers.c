@@ -83,7 +83,7 @@ static void print_tables(const struct zacpi_source *source) {
     size_t i, k;
     ONE("root", struct zacpi_root, zacpi_open, IT, "%llx %u %u %llx %u\n", (wide)it->address, it->length,
         it->pointer_width, (wide)it->rsdp_address, it->rsdp_length);
-    ONE("there", struct zacpi_table, zacpi_get_table, (source, source->address, &item, &named), "%llx %u %u " IDS "\n",
+    ONE("there", struct zacpi_table, zacpi_get_table, (source, source->address, item, named), "%llx %u %u " IDS "\n",
         (wide)it->address, it->length, it->revision, IDS_OF(it));
     LIST("tables", zacpi_table, zacpi_list_tables, ALL, "%llx %u %u " IDS "\n", (wide)it->address, it->length,
          it->revision, IDS_OF(it));
