@@ -78,7 +78,10 @@ def told(function):
 
 
 def told_module(module):
+    """The module with what is said of its functions, and with one way to say that nobody comes: what the sources call
+    `unreachable!` stops before it does. The C stops there too."""
     matching(DEFINED.findall(module), *TO_PASSES)
+    module = re.sub(r'^ *(?:tail )?call void @llvm\.trap\(\).*\n(?= *unreachable)', '', module, flags=re.M)
     return re.sub(r'^define .*?^\}\n', lambda found: told(found[0]), module, flags=re.M | re.S)
 
 
