@@ -3,6 +3,7 @@
 
 use acpi_cli::borrowed;
 use acpi_dump_input::sources::HostSources;
+use acpi_dump_lib::parser::OptionParser;
 use acpi_dump_lib::run::{dump, refuse_arguments};
 use acpi_pack_lib::storage::HostStorage;
 use std::process::ExitCode;
@@ -33,6 +34,7 @@ fn status(rt: &HostRuntime) -> io::Result<u8> {
     let (mut sources, mut storage) = (HostSources::new(rt), HostStorage::new(rt));
     dump(
         rt.alloc(),
+        &OptionParser,
         &arguments,
         &mut sources,
         &mut storage,

@@ -1,6 +1,6 @@
 -- What one part of a run saves is what the run saves.
-use Rattle.std.proofs.Common.{◌≡◌, ◌∙◌, ℕ, zero, suc, ◌+◌, ◌++◌, ◌<◌, Bool, true, false, ◌||◌, List, [], ◌∷◌, length, Option, Some, None, ap, inl, inr, refl, subst, sym, arith, take}
-use Rattle.std.specs.Prelude.{All, Contains, map, slice_index_or}
+use Rattle.std.proofs.Common.{◌≡◌, ◌∙◌, ℕ, zero, suc, ◌+◌, ◌++◌, ◌<◌, Bool, true, false, ◌||◌, List, [], ◌∷◌, length, Option, Some, None, Ok, Err, ap, inl, inr, refl, subst, sym, arith, take}
+use Rattle.std.specs.Prelude.{◌≢◌, All, Contains, map, slice_index_or}
 use Rattle.std.proofs.lemmas.List.Elements.{All-contains, All-push, All-weaker, Contains-get_or}
 use Rattle.std.proofs.lemmas.List.{take_more}
 use Rattle.acpi_base.proofs.FromStd.{map-append}
@@ -10,10 +10,15 @@ use Rattle.acpi_dump_input.specs.Given.{inputs_read}
 use Rattle.acpi_dump_input.specs.Inputs.{AreAllTables, AreTables, IsInput, IsPart, tables_in}
 use Rattle.acpi_dump_input.specs.declared.gather.Input.{Input}
 use Rattle.acpi_dump_input.specs.declared.gather.Input.TheVariants as input
-use Rattle.acpi_dump_lib.specs.Asked.{Asked, IsAsked, has_none}
-use Rattle.clap.specs.declared.parser.matches.Found.{Found}
-use Rattle.acpi_dump_lib.specs.Saves.{SavesAsked, SavesFor, SavesIn, SavesInput, SavesOrFails, SavesPaged}
+use Rattle.acpi_dump_lib.specs.Asked.{Asked, IsAsked, Parsed, has_none, is_shown}
+use Rattle.acpi_dump_lib.specs.Saves.{SavesAsked, SavesFor, SavesIn, SavesInput, SavesOrFails, SavesPaged, SavesParsed}
 use Rattle.acpi_pack_lib.specs.Saves.{FileSaved}
+use Rattle.clap.specs.Matches.{found_of}
+use Rattle.clap.specs.Values.{kind_of}
+use Rattle.clap.specs.declared.error.Error.{Error}
+use Rattle.clap.specs.declared.error.kind.ErrorKind.{ErrorKind}
+use Rattle.clap.specs.declared.error.kind.ErrorKind.TheVariants.{DisplayHelp, DisplayVersion}
+use Rattle.clap.specs.declared.parser.matches.ArgMatches.{ArgMatches}
 
 -- ---- more may be left out
 
@@ -62,7 +67,8 @@ weaker_input i asked folder p q before after less saves = record {
 weaker_in : (gives : List ℕ → List ℕ → Type 0) (asked : Asked) (folder : Option (List ℕ)) (p q : Bool)
     (before after : List FileSaved) → (q ≡ false → p ≡ false) → SavesIn gives asked folder p before after
     → SavesIn gives asked folder q before after
-weaker_in gives asked None p q before after less saves = weaker_paged asked.inputs asked.page p q before after less saves
+weaker_in gives asked None p q before after less saves =
+    weaker_paged asked.inputs asked.page p q before after less saves
 weaker_in gives asked (Some folder) p q before after less (inl none) = inl (told p q less none.0, none.1)
 weaker_in gives asked (Some folder) p q before after less (inr saves) = inr (record {
   input = saves.input;
@@ -70,11 +76,18 @@ weaker_in gives asked (Some folder) p q before after less (inr saves) = inr (rec
   saves = weaker_input saves.input asked folder p q before after less saves.saves;
 })
 
-pub weaker_asked : (gives : List ℕ → List ℕ → Type 0) (p q : Bool) (before after : List FileSaved)
-    → (q ≡ false → p ≡ false) → SavesAsked gives p before after → SavesAsked gives q before after
-weaker_asked gives p q before after less (inl none) = inl none
-weaker_asked gives p q before after less (inr (found, asked, is, saves)) =
-    inr (found, asked, is, weaker_in gives asked asked.folder p q before after less saves)
+weaker_parsed : (gives : List ℕ → List ℕ → Type 0) (parsed : Parsed) (p q : Bool) (before after : List FileSaved)
+    → (q ≡ false → p ≡ false) → SavesParsed gives parsed p before after → SavesParsed gives parsed q before after
+weaker_parsed gives (Ok matches) p q before after less (inl none) = inl (told p q less none.0, none.1)
+weaker_parsed gives (Ok matches) p q before after less (inr (asked, is, saves)) =
+    inr (asked, is, weaker_in gives asked asked.folder p q before after less saves)
+weaker_parsed gives (Err error) p q before after less (none, shown) = (none, λ off. shown (less off))
+
+pub weaker_asked : (finds : List (List ℕ) → Parsed → Type 0) (gives : List ℕ → List ℕ → Type 0)
+    (words : List (List ℕ)) (p q : Bool) (before after : List FileSaved) → (q ≡ false → p ≡ false)
+    → SavesAsked finds gives words p before after → SavesAsked finds gives words q before after
+weaker_asked finds gives words p q before after less (parsed, found, saves) =
+    (parsed, found, weaker_parsed gives parsed p q before after less saves)
 
 -- ---- tables
 
@@ -84,7 +97,7 @@ all_same tables same e =
     subst (λ ts. All (Contains tables) ts) (sym e) (λ k d less. Contains-get_or tables k d less)
 
 -- those that are chosen among those of what was read
-pub are_chosen : (i : Input) (tables chosen : List (List ℕ)) → AreTables i tables → All (Contains tables) chosen
+are_chosen : (i : Input) (tables chosen : List (List ℕ)) → AreTables i tables → All (Contains tables) chosen
     → AreTables i chosen
 are_chosen (input.Memory image) tables chosen (m, is, parts) some = (
   m,
@@ -95,7 +108,7 @@ are_chosen (input.Tables files) tables chosen all some =
     All-weaker (Contains tables) (Contains (tables_in files.items))
     (λ t has. All-contains (Contains (tables_in files.items)) tables t all has) chosen some
 
-distinct : true ≡ false → ⊥
+pub distinct : true ≡ false → ⊥
 distinct same = cc
 
 pub none_of : {A : Type 0} (xs : List A) → has_none xs ≡ true → xs ≡ []
@@ -116,7 +129,8 @@ pub chosen_more : {A : Type 0} (entries chosen after : List Entry) (choices : Li
     → All (Contains (map (λ (e : Entry). e.bytes.now) entries)) (map (λ (e : Entry). e.bytes.now) chosen)
     × (choices ≡ [] → map (λ (e : Entry). e.bytes.now) chosen ≡ map (λ (e : Entry). e.bytes.now) (take i entries))
     → All (Contains (map (λ (e : Entry). e.bytes.now) entries)) (map (λ (e : Entry). e.bytes.now) after)
-    × (choices ≡ [] → map (λ (e : Entry). e.bytes.now) after ≡ map (λ (e : Entry). e.bytes.now) (take (i + 1) entries))
+    × (choices ≡ []
+    → map (λ (e : Entry). e.bytes.now) after ≡ map (λ (e : Entry). e.bytes.now) (take (i + 1) entries))
 chosen_more entries chosen after choices i d less grown some =
     let bytes : Entry → List ℕ = λ e. e.bytes.now in
     let entry = slice_index_or entries i d in
@@ -125,15 +139,17 @@ chosen_more entries chosen after choices i d less grown some =
     let taken : map bytes (take (i + 1) entries) ≡ map bytes (take i entries) ++ bytes entry ∷ [] =
     ap (map bytes) (take_more entries i d less) ∙ map-append bytes (take i entries) (entry ∷ []) in (
       subst (All (Contains (map bytes entries))) (sym longer)
-          (All-push (Contains (map bytes entries)) (map bytes chosen) (bytes entry) some.0 (has_bytes entries i d less)),
+          (All-push (Contains (map bytes entries)) (map bytes chosen) (bytes entry) some.0
+          (has_bytes entries i d less)),
       λ none. longer ∙ ap (λ ts. ts ++ bytes entry ∷ []) (some.1 none) ∙ sym taken,
     )
 
 -- they are saved, all of them if there are no choices
-pub chosen_saved : {A : Type 0} (i : Input) (asked : Asked) (folder : List ℕ) (inputs shown chosen of tables : List (List ℕ))
-    (choices : List A) (p q : Bool) (before after : List FileSaved) → inputs ≡ asked.inputs → shown ≡ chosen
-    → of ≡ tables → (asked.are_all ≡ true → choices ≡ []) → (q ≡ false → p ≡ false) → AreTables i tables
-    → AreAllTables i tables → All (Contains of) chosen → (choices ≡ [] → chosen ≡ of)
+pub chosen_saved : {A : Type 0} (i : Input) (asked : Asked) (folder : List ℕ)
+    (inputs shown chosen of tables : List (List ℕ)) (choices : List A) (p q : Bool) (before after : List FileSaved)
+    → inputs ≡ asked.inputs → shown ≡ chosen → of ≡ tables → (asked.are_all ≡ true → choices ≡ [])
+    → (q ≡ false → p ≡ false) → AreTables i tables → AreAllTables i tables → All (Contains of) chosen
+    → (choices ≡ [] → chosen ≡ of)
     → SavesTables inputs folder shown p before after → SavesOrFails i asked folder q before after
 chosen_saved i asked folder inputs shown chosen of tables choices p q before after same is are none less have all some
     every saves =
@@ -153,20 +169,14 @@ pub failed_paged : (inputs : List (List ℕ)) (file : Option (List ℕ)) (p : Bo
 failed_paged inputs None p before after is same = same
 failed_paged inputs (Some file) p before after is same = inl (is, same)
 
-pub text_saved : (inputs : List (List ℕ)) (file text : List ℕ) (p q : Bool) (before after : List FileSaved)
-    → (q ≡ false → p ≡ false) → SavesPage inputs file text p before after
-    → SavesPaged inputs (Some file) q before after
-text_saved inputs file text p q before after less saves =
-    inr (text, weaker_page inputs file text p q before after less saves)
-
 -- ---- a run
 
-pub failed_in : (gives : List ℕ → List ℕ → Type 0) (asked : Asked) (folder : Option (List ℕ)) (p : Bool)
+failed_in : (gives : List ℕ → List ℕ → Type 0) (asked : Asked) (folder : Option (List ℕ)) (p : Bool)
     (before after : List FileSaved) → p ≡ true → after ≡ before → SavesIn gives asked folder p before after
 failed_in gives asked None p before after is same = failed_paged asked.inputs asked.page p before after is same
 failed_in gives asked (Some folder) p before after is same = inl (is, same)
 
-pub read_saved : (gives : List ℕ → List ℕ → Type 0) (asked : Asked) (i : Input) (folder : List ℕ) (p : Bool)
+read_saved : (gives : List ℕ → List ℕ → Type 0) (asked : Asked) (i : Input) (folder : List ℕ) (p : Bool)
     (before after : List FileSaved) → IsInput gives (inputs_read asked.inputs) i
     → SavesOrFails i asked folder p before after → SavesIn gives asked (Some folder) p before after
 read_saved gives asked i folder p before after read (inl none) = inl none
@@ -202,7 +212,41 @@ paged_for gives asked file p before after none is saves =
     subst (λ f. SavesIn gives asked f p before after) (sym none)
     (subst (λ f. SavesPaged asked.inputs f p before after) (sym is) saves)
 
-pub asked_saved : (gives : List ℕ → List ℕ → Type 0) (found : Found) (asked : Asked) (p : Bool)
-    (before after : List FileSaved) → IsAsked found asked → SavesFor gives asked p before after
-    → SavesAsked gives p before after
-asked_saved gives found asked p before after is saves = inr (found, asked, is, saves)
+pub ruleset requested = (failed_for, read_for, paged_for)
+
+-- ---- a run, by what the parse of its arguments returned
+
+module _ (finds : List (List ℕ) → Parsed → Type 0) (gives : List ℕ → List ℕ → Type 0) (words : List (List ℕ))
+    (parsed : Parsed) (p : Bool) (before after : List FileSaved) (found : finds words parsed) where
+  -- options, of which a value may be wrong
+  pub found_saved : (matches : ArgMatches) (asked : Asked) → parsed ≡ Ok matches → IsAsked (found_of matches) asked
+      → SavesFor gives asked p before after → SavesAsked finds gives words p before after
+  found_saved matches asked is asks saves =
+      (parsed, found, subst (λ r. SavesParsed gives r p before after) (sym is) (inr (asked, asks, saves)))
+
+  pub wrong_saved : (matches : ArgMatches) → parsed ≡ Ok matches → p ≡ true → after ≡ before
+      → SavesAsked finds gives words p before after
+  wrong_saved matches is partial same =
+      (parsed, found, subst (λ r. SavesParsed gives r p before after) (sym is) (inl (partial, same)))
+
+  -- or an error
+  pub error_saved : (error : Error) → parsed ≡ Err error → after ≡ before
+      → (p ≡ false → is_shown (kind_of error) ≡ true) → SavesAsked finds gives words p before after
+  error_saved error is same shown =
+      (parsed, found, subst (λ r. SavesParsed gives r p before after) (sym is) (same, shown))
+
+-- ---- which errors are shown
+
+shown_by : (k : ErrorKind) (b : Bool) → is_shown k ≡ b → ((k ≢ DisplayHelp) × (k ≢ DisplayVersion) → ⊥) → b ≡ true
+shown_by k true is one = refl
+shown_by k false is one =
+    absurd (one ((λ e. distinct (sym (ap is_shown e) ∙ is)), (λ e. distinct (sym (ap is_shown e) ∙ is))))
+
+-- help and version
+pub is_help : (k : ErrorKind) → ((k ≢ DisplayHelp) × (k ≢ DisplayVersion) → ⊥) → is_shown k ≡ true
+is_help k one = shown_by k (is_shown k) refl one
+
+-- the status of arguments that are no command means that something is left out
+pub or_true : (b : Bool) → (b || true) ≡ true
+or_true true = refl
+or_true false = refl

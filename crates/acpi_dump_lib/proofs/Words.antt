@@ -1,14 +1,8 @@
 -- Which words are inputs.
-use Rattle.std.proofs.Common.{◌≡◌, ◌<◌, ◌≤◌, ℕ, true, false, List, [], ◌∷◌, length, map, take, refl, arith}
+use Rattle.std.proofs.Common.{◌≡◌, ◌≤◌, ℕ, true, false, List, [], ◌∷◌, length, map, take, refl, arith}
 use Rattle.std.specs.Borrow.{Bor}
 use Rattle.std.specs.Prelude.{slice_index_or}
 use Rattle.acpi_dump_lib.specs.Asked.{inputs_among, is_form}
-
-pub few_words : (words : List (Bor (List ℕ))) → length words < 2
-    → map (λ (w : Bor (List ℕ)). w.now) words ≡ inputs_among (map (λ (w : Bor (List ℕ)). w.now) words)
-few_words [] few = refl
-few_words (w ∷ []) few = refl
-few_words (w ∷ v ∷ words) few = absurd (omega (arith, few))
 
 pub no_way : (words : List (Bor (List ℕ))) (d : Bor (List ℕ)) → 2 ≤ length words
     → is_form (slice_index_or words 1 d).now ≡ false

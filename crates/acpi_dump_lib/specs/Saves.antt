@@ -1,12 +1,13 @@
 -- What a run saves: --extract tables of the inputs, --html one page, and else nothing.
-use Rattle.std.specs.Prelude.{◌≡◌, ◌⊎◌, ◌||◌, ◌==◌, ℕ, Bool, true, not, List, Option, Some, None, Result, Ok, Err}
+use Rattle.std.specs.Prelude.{◌≡◌, ◌⊎◌, ◌||◌, ◌==◌, ℕ, Bool, true, false, not, List, Option, Some, None, Result, Ok, Err}
 use Rattle.acpi_dump_input.specs.Extract.{SavesPage, SavesTables}
 use Rattle.acpi_dump_input.specs.Given.{inputs_read}
 use Rattle.acpi_dump_input.specs.Inputs.{AreAllTables, AreTables, IsInput}
 use Rattle.acpi_dump_input.specs.declared.gather.Input.{Input}
-use Rattle.acpi_dump_lib.specs.Asked.{Asked, IsAsked}
+use Rattle.acpi_dump_lib.specs.Asked.{Asked, IsAsked, Parsed, is_shown}
 use Rattle.acpi_pack_lib.specs.Saves.{FileSaved}
-use Rattle.clap.specs.declared.parser.matches.Found.{Found}
+use Rattle.clap.specs.Matches.{found_of}
+use Rattle.clap.specs.Values.{kind_of}
 
 -- whether something may be left out: after an error, if the run is marked as incomplete, and by a status but those that
 -- mean that all is shown
@@ -56,7 +57,16 @@ SavesIn gives asked (Some folder) is_partial before after = ((is_partial ≡ tru
 abbrev pub SavesFor : (List ℕ → List ℕ → Type 0) → Asked → Bool → List FileSaved → List FileSaved → Type 0
 SavesFor gives asked is_partial before after = SavesIn gives asked asked.folder is_partial before after
 
--- what is requested by what the parse of the arguments found; nothing, if they are no command or request help
-abbrev pub SavesAsked : (List ℕ → List ℕ → Type 0) → Bool → List FileSaved → List FileSaved → Type 0
-SavesAsked gives is_partial before after = (after ≡ before)
-    ⊎ ((found : Found) × (asked : Asked) × IsAsked found asked × SavesFor gives asked is_partial before after)
+-- by what a parse returned: what the options request that it found, or nothing if a value of theirs is wrong, and then
+-- something is left out; after an error nothing, and then something is left out or the error is the help or the version
+abbrev pub SavesParsed : (List ℕ → List ℕ → Type 0) → Parsed → Bool → List FileSaved → List FileSaved → Type 0
+SavesParsed gives (Ok matches) is_partial before after = ((is_partial ≡ true) × (after ≡ before))
+    ⊎ ((asked : Asked) × IsAsked (found_of matches) asked × SavesFor gives asked is_partial before after)
+SavesParsed gives (Err error) is_partial before after =
+    (after ≡ before) × (is_partial ≡ false → is_shown (kind_of error) ≡ true)
+
+-- what words request: by what a parser returned for them, of which `finds` has the results that words may have
+abbrev pub SavesAsked : (List (List ℕ) → Parsed → Type 0) → (List ℕ → List ℕ → Type 0) → List (List ℕ) → Bool
+    → List FileSaved → List FileSaved → Type 0
+SavesAsked finds gives words is_partial before after =
+    (parsed : Parsed) × finds words parsed × SavesParsed gives parsed is_partial before after

@@ -1,6 +1,6 @@
 //! The arguments of the program.
-ghost use Rattle.std.specs.Prelude.{◌≡◌, IfNone, IfOk, IfSome, map, option_map, take, unwrap_or, []};
-ghost use Rattle.acpi_dump_lib.specs.Asked.{AreAlike, IsAsked, asked_of, inputs_among, is_form as begins_way, value_of};
+ghost use Rattle.std.specs.Prelude.{◌≡◌, IfNone, IfOk, IfSome, OnOk, map, option_map, take, unwrap_or, []};
+ghost use Rattle.acpi_dump_lib.specs.Asked.{AreAlike, ChoosesNone, IsAsked, asked_of, inputs_among, is_form as begins_way, value_of, values_of};
 ghost use Rattle.clap.specs.Matches.{first_value, found_of};
 
 use crate::options::{Choice, Contents, refuse, refuse_option};
@@ -204,9 +204,12 @@ impl Request<'_> {
         option: &'static str,
         contents: Contents,
     ) -> Result<(), Stop>
-        ensures { AreAlike self.new self.old }
+        ensures alike { AreAlike self.new self.old }
+        ensures none { OnOk result (values_of (found_of matches.now) option.now ≡ []
+            → self.new.choices ≡ self.old.choices) }
     {
-        for word in matches.get_strs(option).unwrap_or(&[]) {
+        let words = matches.get_strs(option).unwrap_or(&[]);
+        for word in words {
             let Some(signature) = parse_signature(*word) else {
                 return Err(refuse_option(log, option, *word));
             };
@@ -217,7 +220,8 @@ impl Request<'_> {
 
     /// Adds the tables whose contents are chosen: in acpidump's text all of them, unless some are named.
     fn add_contents(&mut self, matches: &ArgMatches<'_>, log: &mut Log) -> Result<(), Stop>
-        ensures { AreAlike self.new self.old }
+        ensures alike { AreAlike self.new self.old }
+        ensures none { OnOk result (ChoosesNone (found_of matches.now) → self.new.choices ≡ self.old.choices) }
     {
         let is_text = matches.get_flag("text");
         let (of_table, of_hex) = if is_text {
@@ -235,7 +239,8 @@ impl Request<'_> {
 
     /// Takes a view, which has to be the only one.
     fn take_view(&mut self, view: View, log: &mut Log) -> Result<(), Stop>
-        ensures { AreAlike self.new self.old }
+        ensures alike { AreAlike self.new self.old }
+        ensures choices { self.new.choices ≡ self.old.choices }
     {
         if !matches!(self.view, View::Lines) {
             return Err(refuse(log, "two views", ONE_VIEW));
@@ -246,7 +251,8 @@ impl Request<'_> {
 
     /// Adds the view that the options ask for, of which at most one kind may be there.
     fn add_view(&mut self, matches: &ArgMatches<'_>, log: &mut Log) -> Result<(), Stop>
-        ensures { AreAlike self.new self.old }
+        ensures alike { AreAlike self.new self.old }
+        ensures choices { self.new.choices ≡ self.old.choices }
     {
         let is_text = matches.get_flag("text");
         let are_files = self.folder.is_some() && matches.get_strs("hex").is_none();
@@ -280,6 +286,7 @@ impl Request<'_> {
             ≡ inputs_among (map (λ i. i.now) self.old.inputs.now)) }
         ensures folder { self.new.folder ≡ self.old.folder }
         ensures page { self.new.page ≡ self.old.page }
+        ensures choices { self.new.choices ≡ self.old.choices }
     {
         let Some((form, words)) = root_words(self.inputs) else {
             return Ok(());

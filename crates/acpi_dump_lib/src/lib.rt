@@ -11,6 +11,7 @@ mod getters;
 mod listing;
 mod options;
 mod paint;
+pub mod parser;
 pub mod run;
 mod summary;
 mod views;

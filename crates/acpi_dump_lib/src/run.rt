@@ -1,11 +1,13 @@
 //! The program over any files, any storage and any writers.
-ghost use Rattle.std.specs.Prelude.{◌≡◌, false, map, option_map};
-ghost use Rattle.acpi_dump_lib.specs.Asked.{asked_of};
+ghost use Rattle.std.specs.Prelude.{◌≡◌, false, true, map, option_map};
+ghost use Rattle.acpi_dump_lib.specs.Asked.{asked_of, is_shown};
+ghost use Rattle.clap.specs.Values.{kind_of};
 ghost use Rattle.acpi_dump_lib.specs.Saves.{SavesAsked, SavesFor, SavesPaged, leaves_out};
 
 use crate::arguments::{Color, Request, View, request_of};
-use crate::options::{command, refuse_option};
+use crate::options::refuse_option;
 use crate::paint::Paint;
+use crate::parser::Parser;
 use crate::views::{
     Output, has_no_start, print_compared, print_input, print_rules, save_input, save_page,
 };
@@ -14,7 +16,6 @@ use acpi_dump_input::gather::gather;
 use acpi_dump_input::sources::{Sources, reason_of};
 use acpi_dump_walk::out::Out;
 use acpi_pack_lib::storage::Storage;
-use clap::ArgMatches;
 use std::alloc::{AllocError, Global};
 use std::io;
 use std::io::{ErrorKind, Write};
@@ -27,18 +28,22 @@ use std::io::{ErrorKind, Write};
 /// Fails if memory runs out, or with the error of the first write or flush of `out`, or else of `err`, that
 /// fails.
 #[tactic(auto, using(crate::proofs::Saved::weaker_asked))]
-pub fn dump<S: Sources, T: Storage, W: Write + Drop, E: Write + Drop>(
+pub fn dump<P: Parser, S: Sources, T: Storage, W: Write + Drop, E: Write + Drop>(
     alloc: Global,
+    parser: &P,
     arguments: &[&str],
     sources: &mut S,
     storage: &mut T,
     out: W,
     err: E,
 ) -> io::Result<u8>
-    ensures { SavesAsked S.gives (leaves_out result false) (T.saved storage.old) (T.saved storage.new) }
+    ensures { SavesAsked P.finds S.gives (map (λ a. a.now) arguments.now) (leaves_out result false)
+        (T.saved storage.old) (T.saved storage.new) }
 {
     let (mut shown, mut log) = (Out::new(alloc), Log::new(alloc));
-    let status = print_asked(alloc, arguments, sources, storage, &mut shown, &mut log);
+    let status = print_asked(
+        alloc, parser, arguments, sources, storage, &mut shown, &mut log,
+    );
     if let Err(Stop::OutOfMemory) = &status {
         log.text.text("acpi_dump: out of memory\n");
     }
@@ -67,19 +72,19 @@ fn status_of_run(shown: Result<u8, Stop>, is_incomplete: bool) -> Result<u8, All
 }
 
 /// Prints what the arguments ask for.
-#[tactic(auto, using(crate::proofs::Saved::asked_saved))]
-fn print_asked<S: Sources, T: Storage>(
+fn print_asked<P: Parser, S: Sources, T: Storage>(
     alloc: Global,
+    parser: &P,
     arguments: &[&str],
     sources: &mut S,
     storage: &mut T,
     out: &mut Out,
     log: &mut Log,
 ) -> Result<u8, Stop>
-    ensures { SavesAsked S.gives (leaves_out result log.new.is_incomplete) (T.saved storage.old)
-        (T.saved storage.new) }
+    ensures { SavesAsked P.finds S.gives (map (λ a. a.now) arguments.now) (leaves_out result log.new.is_incomplete)
+        (T.saved storage.old) (T.saved storage.new) }
 {
-    match &command(alloc)?.try_get_matches_from(arguments) {
+    match &parser.parse(alloc, arguments) {
         Ok(matches) => match &request_of(alloc, matches, log) {
             Ok(request) => print_inputs(alloc, request, sources, storage, out, log),
             Err(Stop::Message) => Ok(2),
@@ -95,7 +100,9 @@ fn print_refusal(
     refusal: &clap::Error,
     out: &mut Out,
     log: &mut Log,
-) -> Result<u8, Stop> {
+) -> Result<u8, Stop>
+    ensures { leaves_out result log.new.is_incomplete ≡ false → is_shown (kind_of refusal.now) ≡ true }
+{
     if refusal.kind() == clap::error::ErrorKind::OutOfMemory {
         return Err(Stop::OutOfMemory);
     }
@@ -114,7 +121,7 @@ fn print_refusal(
 }
 
 /// Prints what is asked for of the inputs.
-#[tactic(auto, using(crate::proofs::Saved::failed_for, crate::proofs::Saved::read_for, crate::proofs::Saved::paged_for))]
+#[tactic(auto, using(crate::proofs::Saved::requested))]
 fn print_inputs<S: Sources, T: Storage>(
     alloc: Global,
     request: &Request<'_>,
