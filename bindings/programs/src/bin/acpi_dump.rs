@@ -5,6 +5,7 @@
 #![allow(unused_imports)]
 
 use acpi_dump::cli::borrowed;
+use acpi_dump::dump::parser::OptionParser;
 use acpi_dump::dump::run::{dump, refuse_arguments};
 use acpi_dump::input::sources::HostSources;
 use acpi_dump::pack::storage::HostStorage;
@@ -37,5 +38,5 @@ fn status(rt: &HostRuntime) -> io::Result<u8> {
         Err(refusal) => return refuse_arguments(refusal, rt.stderr()),
     };
     let (mut sources, mut storage) = (HostSources::new(rt), HostStorage::new(rt));
-    dump(rt.alloc(), &arguments, &mut sources, &mut storage, io::writer(rt), rt.stderr())
+    dump(rt.alloc(), &OptionParser, &arguments, &mut sources, &mut storage, io::writer(rt), rt.stderr())
 }

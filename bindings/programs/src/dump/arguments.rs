@@ -180,7 +180,8 @@ impl Request<'_> {
         option: &'static str,
         contents: Contents,
     ) -> Result<(), Stop> {
-        for word in matches.get_strs(option).unwrap_or(&[]) {
+        let words = matches.get_strs(option).unwrap_or(&[]);
+        for word in words {
             let Some(signature) = parse_signature(*word) else {
                 return Err(refuse_option(log, option, *word));
             };

@@ -17,6 +17,7 @@ mod getters;
 mod listing;
 pub(crate) mod options;
 mod paint;
+pub mod parser;
 pub mod run;
 mod summary;
 mod views;

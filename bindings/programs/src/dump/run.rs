@@ -1,10 +1,10 @@
 // Made by scripts/erase of crates/acpi_dump_lib/src/run.rt, where it is proved.
 //! The program over any files, any storage and any writers.
 
-use crate::arguments::ArgMatches;
 use crate::dump::arguments::{Color, Request, View, request_of};
-use crate::dump::options::{command, refuse_option};
+use crate::dump::options::refuse_option;
 use crate::dump::paint::Paint;
+use crate::dump::parser::Parser;
 use crate::dump::views::{Output, has_no_start, print_compared, print_input, print_rules, save_input, save_page};
 use crate::input::errors::{Log, Stop, tell};
 use crate::input::gather::gather;
@@ -23,8 +23,9 @@ use crate::walk::out::Out;
 ///
 /// Fails if memory runs out, or with the error of the first write or flush of `out`, or else of `err`, that
 /// fails.
-pub fn dump<S: Sources, T: Storage, W: Write, E: Write>(
+pub fn dump<P: Parser, S: Sources, T: Storage, W: Write, E: Write>(
     alloc: Global,
+    parser: &P,
     arguments: &[&str],
     sources: &mut S,
     storage: &mut T,
@@ -32,7 +33,7 @@ pub fn dump<S: Sources, T: Storage, W: Write, E: Write>(
     err: E,
 ) -> io::Result<u8> {
     let (mut shown, mut log) = (Out::new(alloc), Log::new(alloc));
-    let status = print_asked(alloc, arguments, sources, storage, &mut shown, &mut log);
+    let status = print_asked(alloc, parser, arguments, sources, storage, &mut shown, &mut log);
     if let Err(Stop::OutOfMemory) = &status {
         log.text.text("acpi_dump: out of memory\n");
     }
@@ -59,15 +60,16 @@ fn status_of_run(shown: Result<u8, Stop>, is_incomplete: bool) -> Result<u8, All
 }
 
 /// Prints what the arguments ask for.
-fn print_asked<S: Sources, T: Storage>(
+fn print_asked<P: Parser, S: Sources, T: Storage>(
     alloc: Global,
+    parser: &P,
     arguments: &[&str],
     sources: &mut S,
     storage: &mut T,
     out: &mut Out,
     log: &mut Log,
 ) -> Result<u8, Stop> {
-    match &command(alloc)?.try_get_matches_from(arguments) {
+    match &parser.parse(alloc, arguments) {
         Ok(matches) => match &request_of(alloc, matches, log) {
             Ok(request) => print_inputs(alloc, request, sources, storage, out, log),
             Err(Stop::Message) => Ok(2),
