@@ -209,14 +209,14 @@ fn check(lent: &[u8], signature: Signature, cut: AcpiError) -> Status {
 }
 
 /// What there is to say of a table, over all bytes that are shown of it, after what the checks say.
-fn looked_over(status: Status, bytes: &[u8]) -> Status {
+fn looked_over(alloc: Global, status: Status, bytes: &[u8]) -> Status {
     if !matches!(status, Status::Valid) {
         return status;
     }
     let over = bytes.len().saturating_sub(field(bytes, 4, 4) as usize);
     if over > 0 && !bytes.starts_with(b"RSD PTR ") {
         Status::Longer(over)
-    } else if is_malformed(bytes) {
+    } else if is_malformed(alloc, bytes) {
         Status::Malformed
     } else {
         status
@@ -224,7 +224,7 @@ fn looked_over(status: Status, bytes: &[u8]) -> Status {
 }
 
 /// The table in a file.
-fn entry_of_file(file: &TableFile) -> Entry<'_>
+fn entry_of_file(alloc: Global, file: &TableFile) -> Entry<'_>
     ensures { result.bytes.now ≡ file.now.bytes.items }
 {
     let lent = file.bytes.as_slice();
@@ -245,7 +245,7 @@ fn entry_of_file(file: &TableFile) -> Entry<'_>
         place,
         sought: None,
         bytes: lent,
-        status: looked_over(status, lent),
+        status: looked_over(alloc, status, lent),
     }
 }
 
@@ -257,7 +257,7 @@ pub fn entries_of_files(alloc: Global, files: &[TableFile]) -> Result<Vec<Entry<
 {
     let mut entries = Vec::new(alloc);
     for file in files {
-        entries.push(entry_of_file(file))?;
+        entries.push(entry_of_file(alloc, file))?;
     }
     Ok(entries)
 }
@@ -287,7 +287,12 @@ pub fn bytes_from<'i>(image: &MemoryImage<'i>, address: u64) -> &'i [u8]
 
 /// The table at an address, checked under the signature that it should have, or under its own.
 #[tactic(auto, using(crate::proofs::Parts::is_part))]
-pub fn entry_at<'i>(image: &MemoryImage<'i>, address: u64, sought: Option<Signature>) -> Entry<'i>
+pub fn entry_at<'i>(
+    alloc: Global,
+    image: &MemoryImage<'i>,
+    address: u64,
+    sought: Option<Signature>,
+) -> Entry<'i>
     ensures { IsPart (memory_of image.now) result.bytes.now }
 {
     let lent = bytes_from(image, address);
@@ -302,12 +307,13 @@ pub fn entry_at<'i>(image: &MemoryImage<'i>, address: u64, sought: Option<Signat
         place: Place::Address(address),
         sought,
         bytes,
-        status: looked_over(status, bytes),
+        status: looked_over(alloc, status, bytes),
     }
 }
 
 /// The table that a FADT leads to, or its refusal to say where.
 fn entry_led<'i>(
+    alloc: Global,
     image: &MemoryImage<'i>,
     address: AcpiResult<u64>,
     signature: Signature,
@@ -315,7 +321,7 @@ fn entry_led<'i>(
     ensures { IsPart (memory_of image.now) result.bytes.now }
 {
     match address {
-        Ok(address) => entry_at(image, address, Some(signature)),
+        Ok(address) => entry_at(alloc, image, address, Some(signature)),
         Err(refusal) => Entry {
             place: Place::Nowhere,
             sought: Some(signature),
@@ -353,15 +359,15 @@ pub fn entries_of<'i>(
     ensures parts { IfOk result (λ v. All (IsPart (memory_of image.now)) (map (λ e. e.bytes.now) v.items)) }
     ensures some { IfOk result (λ v. 0 < length v.items) }
 {
-    let mut entries = vec![in alloc; entry_at(image, tables.root_address(), None)]?;
+    let mut entries = vec![in alloc; entry_at(alloc, image, tables.root_address(), None)]?;
     for address in tables.addresses() {
-        entries.push(entry_at(image, address, None))?;
+        entries.push(entry_at(alloc, image, address, None))?;
     }
     for led in &led_by_fadt(tables) {
         let Some((address, signature)) = *led else {
             continue;
         };
-        entries.push(entry_led(image, address, signature))?;
+        entries.push(entry_led(alloc, image, address, signature))?;
     }
     Ok(entries)
 }

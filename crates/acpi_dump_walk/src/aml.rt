@@ -1,9 +1,9 @@
 //! The named objects of AML, in the order of the bytes (ACPI 6.4, section 20.2.5). AML is not run.
 ghost use Rattle.std.specs.Prelude.{◌<◌, ◌≤◌, length, IfOk};
 
-mod resources;
+pub mod resources;
 mod units;
-mod value;
+pub mod value;
 
 use crate::out::Out;
 use crate::walk::ShowObjects;
@@ -59,6 +59,14 @@ impl From<AllocError> for Ends {
 }
 
 impl Ends {
+    /// Whether the table is malformed by it. It isn't by what is run when the table is loaded, and by what isn't known.
+    pub fn is_malformed(self) -> bool {
+        matches!(
+            self,
+            Ends::Aml(AmlError::PastEnd(_) | AmlError::InvalidLength(_) | AmlError::InvalidName(_))
+        )
+    }
+
     /// Prints it.
     pub fn print(self, out: &mut Out) {
         let (words, at) = match self {
