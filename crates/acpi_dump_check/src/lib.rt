@@ -63,6 +63,8 @@ pub fn findings_of(machine: &Machine<'_>) -> Result<Judgement, AllocError> {
     }
     affinities::check_affinities(machine, &mut findings);
     devices::check_console(machine, &mut findings);
+    fadt::check_arm(machine, &mut findings);
+    machines::check_processors(machine, &mut findings);
     findings.in_order(machine.entries)
 }
 
