@@ -7,6 +7,7 @@
 #![tactic(auto)]
 
 mod affinities;
+mod aml;
 mod devices;
 mod facs;
 mod fadt;
@@ -32,7 +33,7 @@ use machine::table_of;
 use std::alloc::AllocError;
 
 /// The texts of the rules, subject by subject.
-fn subjects() -> [&'static str; 10] {
+fn subjects() -> [&'static str; 11] {
     [
         roots::RULES,
         headers::RULES,
@@ -43,6 +44,7 @@ fn subjects() -> [&'static str; 10] {
         devices::RULES,
         iommu::RULES,
         machines::RULES,
+        aml::RULES,
         fields::RULES,
     ]
 }
@@ -65,6 +67,7 @@ pub fn findings_of(machine: &Machine<'_>) -> Result<Judgement, AllocError> {
     devices::check_console(machine, &mut findings);
     fadt::check_arm(machine, &mut findings);
     machines::check_processors(machine, &mut findings);
+    aml::check_aml(machine, &mut findings);
     findings.in_order(machine.entries)
 }
 
