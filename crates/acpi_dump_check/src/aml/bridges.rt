@@ -23,12 +23,13 @@ const MEMORY: u64 = 0;
 
 const BUSES: u64 = 2;
 
-/// A list of spans, each of an owner: what descriptors of a space have.
+/// Adds to a list of spans, as those of an owner, what the descriptors of a space have that a name is set to.
 fn add_spans(
     spans: &mut Vec<Span>,
     space: u64,
     names: &Names<'_>,
-    (owner, it): (usize, &Named<'_>),
+    it: &Named<'_>,
+    owner: usize,
     findings: &mut Findings,
 ) {
     let Some((at, bytes)) = template_of(names, it) else {
@@ -51,7 +52,7 @@ fn add_spans(
 
 /// The space of a descriptor, the first of its addresses as a processor has it, and how many there are.
 fn range_of(descriptor: &[u8]) -> Option<(u64, u64, u64)> {
-    match descriptor.first() {
+    match descriptor.first().copied() {
         Some(0x85) => Some((MEMORY, field(descriptor, 4, 4), field(descriptor, 16, 4))),
         Some(0x86) => Some((MEMORY, field(descriptor, 4, 4), field(descriptor, 8, 4))),
         Some(0x87 | 0x88 | 0x8A | 0x8B) => {
@@ -72,14 +73,14 @@ pub(super) fn check_regions(machine: &Machine<'_>, names: &Names<'_>, findings: 
     }
     let mut spans = Vec::new(machine.alloc);
     for it in names.all.iter() {
-        if names.name(it) != b"_CRS" {
+        if !matches!(names.name(it), b"_CRS") {
             continue;
         }
         if it.kind != "Name" && has_id(names, it.scope, &BOARD) {
             return;
         }
         if !has_id(names, it.scope, &BRIDGES) {
-            add_spans(&mut spans, MEMORY, names, (0, it), findings);
+            add_spans(&mut spans, MEMORY, names, it, 0, findings);
         }
     }
     findings.need(spans.sort_by_key(|it| (it.first, it.offset)).is_ok());
@@ -115,8 +116,8 @@ pub(super) fn check_windows(names: &Names<'_>, findings: &mut Findings) {
     for (space, what) in [(0u64, "memory"), (1, "ports"), (BUSES, "buses")] {
         let mut spans = Vec::new(findings.alloc);
         for (number, it) in names.all.iter().enumerate() {
-            if names.name(it) == b"_CRS" && has_id(names, it.scope, &BRIDGES) {
-                add_spans(&mut spans, space, names, (number, it), findings);
+            if matches!(names.name(it), b"_CRS") && has_id(names, it.scope, &BRIDGES) {
+                add_spans(&mut spans, space, names, it, number, findings);
             }
         }
         for (before, span) in overlaps(&mut spans, findings) {

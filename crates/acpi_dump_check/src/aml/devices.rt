@@ -15,9 +15,8 @@ pub(super) type Id = (u64, &'static [u8]);
 
 /// Whether a constant is one of ids, or a package that has one.
 fn is_one(data: &[u8], ids: &[Id]) -> bool {
-    let (number, text) = (integer_in(data), text_in(data));
-    ids.iter()
-        .any(|id| number == Some(id.0) || text == Some(id.1))
+    let (number, text) = (integer_in(data), text_in(data).unwrap_or(&[]));
+    ids.iter().any(|id| number == Some(id.0) || text == id.1)
 }
 
 /// Whether the device whose path has a key has one of ids.
@@ -68,7 +67,7 @@ pub(super) fn check_ids(names: &Names<'_>, findings: &mut Findings) {
     let mut found = Numbers::new(findings.alloc);
     for (number, it) in names.all.iter().enumerate() {
         if it.kind == "Name"
-            && names.name(it) == b"_UID"
+            && matches!(names.name(it), b"_UID")
             && let Some(id) = names.find_in(it.scope, b"_HID")
             && id.kind == "Name"
             && !matches!(integer_of(names, it.scope, b"_STA"), Some(status) if status & 1 == 0)
@@ -106,7 +105,7 @@ fn tell_unique(names: &Names<'_>, it: &Named<'_>, other: &Named<'_>, findings: &
 /// Whether the device whose path has a key is a processor (section 5.6.7).
 fn is_processor(names: &Names<'_>, device: u64) -> bool {
     match names.find_in(device, b"_HID") {
-        Some(id) => text_in(id.data) == Some(b"ACPI0007"),
+        Some(id) => matches!(text_in(id.data), Some(b"ACPI0007")),
         None => false,
     }
 }
@@ -182,8 +181,9 @@ fn event_of(name: &[u8]) -> Option<u64> {
 /// Whether a FADT of fixed hardware has a general purpose event: half of a block's bytes have a bit for each.
 fn has_event(fadt: &[u8], event: u64) -> bool {
     let base = field(fadt, 94, 1); // GPE1_BASE
-    let (first, second) = (field(fadt, 92, 1) / 2 * 8, field(fadt, 93, 1) / 2 * 8);
-    event < first || base <= event && event < base + second
+    let first = (field(fadt, 92, 1) / 2).saturating_mul(8); // GPE0_BLK_LEN
+    let second = (field(fadt, 93, 1) / 2).saturating_mul(8); // GPE1_BLK_LEN
+    event < first || base <= event && event < base.saturating_add(second)
 }
 
 /// Judges the methods of general purpose events.

@@ -62,7 +62,8 @@ fn check_id(at: usize, data: &[u8], is_hid: bool, findings: &mut Findings) {
 /// Whether a text is a PNP id or an ACPI id.
 fn is_text_id(text: &[u8]) -> bool {
     let prefix = text.len().saturating_sub(4);
-    let (letters, digits) = text.split_at(prefix);
+    let letters = text.get(..prefix).unwrap_or(&[]);
+    let digits = text.get(prefix..).unwrap_or(&[]);
     let may_be_digits = prefix == 4;
     (prefix == 3 || prefix == 4)
         && letters.iter().all(|it| it.is_ascii_uppercase() || may_be_digits && it.is_ascii_digit())
@@ -126,7 +127,7 @@ pub(super) fn check_links(machine: &Machine<'_>, names: &Names<'_>, findings: &m
         return;
     }
     for it in names.all.iter() {
-        if it.kind == "Name" && names.name(it) == b"_PRT" {
+        if it.kind == "Name" && matches!(names.name(it), b"_PRT") {
             check_routes(names, it, findings);
         }
     }
@@ -176,7 +177,9 @@ fn is_there(names: &Names<'_>, it: &Named<'_>, name: (bool, usize, &[u8])) -> bo
     }
     let is_sought = ups == 0 && segments.len() == 4;
     for up in 0..=depth {
-        let outer = scope.get(..4 * (depth - up)).unwrap_or(&[]);
+        let outer = scope
+            .get(..depth.saturating_sub(up).saturating_mul(4))
+            .unwrap_or(&[]);
         if names.find_in(key_of(ROOT, outer), segments).is_some() {
             return true;
         }
