@@ -14,7 +14,7 @@ PROGRAMS = ['acpi_dump', 'acpi_view', 'acpi_pack']
 OPENED = ('dump/mod.rs', 'mod options;', 'pub(crate) mod options;')
 # Where the package has what is of Rattle's libraries.
 RATTLE = {'clap': 'arguments', 'json': 'json'}
-STD = ['alloc', 'collections', 'vec', 'string', 'boxed', 'num', 'io', 'fs', 'env', 'process', 'os', 'rt']
+STD = ['alloc', 'collections', 'vec', 'string', 'boxed', 'num', 'io', 'fs', 'env', 'process', 'os', 'rt', 'time']
 # Functions that the library's package has without the allocator that they are passed in Rattle.
 GLOBAL = (r'(?P<call>\.platform_info)\([^()]*(?:\([^()]*\))?\)',
           r'\b(?P<path>(?:ManagedSlice|PciConfigRegions|PlatformInfo|GicModel|MemoryAffinities)::new)\('

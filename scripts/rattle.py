@@ -22,7 +22,7 @@ EXPORTED = '#[unsafe(no_mangle)]'
 CORE = {'borrow', 'cell', 'char', 'cmp', 'convert', 'error', 'fmt', 'hash', 'iter', 'marker', 'mem', 'ops', 'option',
         'result', 'slice', 'str', 'array'}
 # Those that a caller of the eraser gives a place of its own, since what allocates is passed an allocator.
-OWN = {'alloc', 'collections', 'vec', 'string', 'boxed', 'num', 'io', 'fs', 'env', 'process', 'os', 'rt', 'simd'}
+OWN = {'alloc', 'collections', 'vec', 'string', 'boxed', 'num', 'io', 'fs', 'env', 'process', 'os', 'rt', 'simd', 'time'}
 # Rust's methods of these names take no allocator.
 METHODS = {'to_vec': 'ToVecIn', 'collect': 'CollectIn', 'read_to_end': 'ReadToEndIn'}
 # Names of Rattle's prelude that Rust's hasn't, or has of another meaning.

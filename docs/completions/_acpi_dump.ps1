@@ -23,6 +23,10 @@ Register-ArgumentCompleter -Native -CommandName 'acpi_dump' -ScriptBlock {
         'acpi_dump' {
             [CompletionResult]::new('--at', 'at', [CompletionResultType]::ParameterName, 'The address of raw memory''s first byte')
             [CompletionResult]::new('--start', 'start', [CompletionResultType]::ParameterName, 'The way to the root table: rsdt:REVISION:ADDRESS, rsdp:ADDRESS or bios')
+            [CompletionResult]::new('--baseline', 'baseline', [CompletionResultType]::ParameterName, 'A document of an earlier --check --json, whose findings are left out')
+            [CompletionResult]::new('--ignore-rules', 'ignore-rules', [CompletionResultType]::ParameterName, 'Findings that are accepted, and left out: lines RULE [SIG [FIELD]] [until DATE]: REASON')
+            [CompletionResult]::new('--format', 'format', [CompletionResultType]::ParameterName, 'What --check prints in place of lines: sarif or junit')
+            [CompletionResult]::new('--sort', 'sort', [CompletionResultType]::ParameterName, 'The order of what --check finds: by table, rule or severity')
             [CompletionResult]::new('--ignore', 'ignore', [CompletionResultType]::ParameterName, 'Fields that are left out of what differs')
             [CompletionResult]::new('--max-bytes', 'max-bytes', [CompletionResultType]::ParameterName, 'How many bytes an input has at most: 1073741824 if it isn''t said')
             [CompletionResult]::new('--as', 'as', [CompletionResultType]::ParameterName, 'What the input is: image, memory, text or table')

@@ -19,7 +19,7 @@ _acpi_dump() {
 
     case "${cmd}" in
         acpi_dump)
-            opts="-c -j -h -V -t -o --at --start --text --force --summary --find --rules --compare --exit-code --ignore --json --strict --max-bytes --help --version --as --table --hex --color --check --extract --html [INPUT]..."
+            opts="-c -j -h -V -t -o --at --start --text --force --summary --find --baseline --ignore-rules --format --sort --rules --compare --exit-code --ignore --json --strict --max-bytes --help --version --as --table --hex --color --check --extract --html [INPUT]..."
             if [[ ${cur} == -* || ${COMP_CWORD} -eq 1 ]] ; then
                 COMPREPLY=( $(compgen -W "${opts}" -- "${cur}") )
                 return 0
@@ -30,6 +30,22 @@ _acpi_dump() {
                     return 0
                     ;;
                 --start)
+                    COMPREPLY=($(compgen -f "${cur}"))
+                    return 0
+                    ;;
+                --baseline)
+                    COMPREPLY=($(compgen -f "${cur}"))
+                    return 0
+                    ;;
+                --ignore-rules)
+                    COMPREPLY=($(compgen -f "${cur}"))
+                    return 0
+                    ;;
+                --format)
+                    COMPREPLY=($(compgen -f "${cur}"))
+                    return 0
+                    ;;
+                --sort)
                     COMPREPLY=($(compgen -f "${cur}"))
                     return 0
                     ;;

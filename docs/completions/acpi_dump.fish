@@ -1,5 +1,9 @@
 complete -c acpi_dump -l at -d 'The address of raw memory\'s first byte' -r
 complete -c acpi_dump -l start -d 'The way to the root table: rsdt:REVISION:ADDRESS, rsdp:ADDRESS or bios' -r
+complete -c acpi_dump -l baseline -d 'A document of an earlier --check --json, whose findings are left out' -r
+complete -c acpi_dump -l ignore-rules -d 'Findings that are accepted, and left out: lines RULE [SIG [FIELD]] [until DATE]: REASON' -r
+complete -c acpi_dump -l format -d 'What --check prints in place of lines: sarif or junit' -r
+complete -c acpi_dump -l sort -d 'The order of what --check finds: by table, rule or severity' -r
 complete -c acpi_dump -l ignore -d 'Fields that are left out of what differs' -r
 complete -c acpi_dump -l max-bytes -d 'How many bytes an input has at most: 1073741824 if it isn\'t said' -r
 complete -c acpi_dump -l as -d 'What the input is: image, memory, text or table' -r -f -a "{image	,memory	,text	,table	}"

@@ -1,8 +1,8 @@
-//! The writer of documents that the sources use of Rattle's `json`, over the layout and the texts of `serde_json`.
+//! The writer and the reader of documents that the sources use of Rattle's `json`, over `serde_json`.
 use crate::rattle::Vec;
 use crate::rattle::alloc::{AllocError, Global};
 use serde_json::ser::{Formatter, PrettyFormatter};
-use std::io::{Error, ErrorKind, Result, Write};
+use std::io::{self, ErrorKind, Write};
 
 #[derive(Clone, Copy, Debug)]
 pub enum Token<'a> {
@@ -21,12 +21,12 @@ pub enum Token<'a> {
 struct Sink(Vec<u8>);
 
 impl Write for Sink {
-    fn write(&mut self, bytes: &[u8]) -> Result<usize> {
-        self.0.extend_from_slice(bytes).map_err(|_| Error::from(ErrorKind::OutOfMemory))?;
+    fn write(&mut self, bytes: &[u8]) -> io::Result<usize> {
+        self.0.extend_from_slice(bytes).map_err(|_| io::Error::from(ErrorKind::OutOfMemory))?;
         Ok(bytes.len())
     }
 
-    fn flush(&mut self) -> Result<()> {
+    fn flush(&mut self) -> io::Result<()> {
         Ok(())
     }
 }
@@ -54,11 +54,11 @@ impl Pretty {
     }
 
     /// Fails if memory runs out.
-    pub fn token(&mut self, token: Token<'_>) -> core::result::Result<(), AllocError> {
+    pub fn token(&mut self, token: Token<'_>) -> Result<(), AllocError> {
         self.write(token).map_err(|_| AllocError)
     }
 
-    fn write(&mut self, token: Token<'_>) -> Result<()> {
+    fn write(&mut self, token: Token<'_>) -> io::Result<()> {
         let out = &mut self.out;
         match token {
             Token::Key(name) => {
@@ -108,4 +108,68 @@ impl Pretty {
 /// Whether a text is a number of JSON.
 pub fn is_number(text: &str) -> bool {
     text.parse::<serde_json::Number>().is_ok()
+}
+
+/// Why a text isn't read.
+#[derive(Clone, Copy, Debug, PartialEq, Eq)]
+pub enum Error {
+    Invalid,
+    OutOfMemory,
+}
+
+/// The memory that reading wants in Rattle.
+pub struct Scratch;
+
+impl Scratch {
+    pub fn new(_: Global) -> Scratch {
+        Scratch
+    }
+}
+
+/// A value of a document, as far as the sources look at it.
+pub enum Value<'a> {
+    Null,
+    String(String),
+    Array(Vec<Value<'a>>),
+    Object(std::vec::Vec<(String, Value<'a>)>),
+    Other(core::marker::PhantomData<&'a ()>),
+}
+
+impl<'a> Value<'a> {
+    pub fn from_slice(alloc: Global, bytes: &'a [u8], _: &'a mut Scratch) -> Result<Value<'a>, Error> {
+        Value::of(alloc, serde_json::from_slice(bytes).map_err(|_| Error::Invalid)?)
+    }
+
+    fn of(alloc: Global, value: serde_json::Value) -> Result<Value<'a>, Error> {
+        Ok(match value {
+            serde_json::Value::Null => Value::Null,
+            serde_json::Value::String(text) => Value::String(text),
+            serde_json::Value::Array(items) => {
+                let mut all = Vec::new(alloc);
+                for item in items {
+                    all.push(Value::of(alloc, item)?).map_err(|_| Error::OutOfMemory)?;
+                }
+                Value::Array(all)
+            }
+            serde_json::Value::Object(members) => {
+                let members = members.into_iter().map(|(name, member)| Ok((name, Value::of(alloc, member)?)));
+                Value::Object(members.collect::<Result<_, Error>>()?)
+            }
+            _ => Value::Other(core::marker::PhantomData),
+        })
+    }
+
+    pub fn as_str(&self) -> Option<&str> {
+        match self {
+            Value::String(text) => Some(text),
+            _ => None,
+        }
+    }
+
+    pub fn get(&self, name: &str) -> Option<&Value<'a>> {
+        match self {
+            Value::Object(members) => members.iter().find(|(own, _)| own == name).map(|(_, member)| member),
+            _ => None,
+        }
+    }
 }

@@ -1,9 +1,10 @@
-//! What the program reads: folders, files and standard input, and whether its output is a terminal.
+//! What the program reads: folders, files, standard input and the date, and whether its output is a terminal.
 ghost use Rattle.std.specs.Prelude.{ℕ, List, IfOk, codes};
 
 use std::alloc::{AllocError, Global};
 use std::fs::File;
 use std::io::{ErrorKind, IsTerminal, Read};
+use std::time::SystemTime;
 use std::{env, fs, io};
 
 /// What a name leads to.
@@ -54,6 +55,11 @@ pub trait Sources {
 
     /// Whether standard output is a terminal that has colors, whose user hasn't set `NO_COLOR`.
     fn takes_color(&mut self) -> bool;
+
+    /// How many days after 1970-01-01 it is, in UTC.
+    ///
+    /// Fails if the system's clock can't be read.
+    fn today(&mut self) -> io::Result<u64>;
 }
 
 /// The folders and files of the system that the program runs on.
@@ -111,6 +117,14 @@ impl Sources for HostSources<'_> {
         let asked_not = env::var(self.rt, "NO_COLOR").is_ok_and(|value| !value.is_empty());
         let is_plain = env::var(self.rt, "TERM").is_ok_and(|value| value.as_str() == "dumb");
         !asked_not && !is_plain && self.rt.stdout().is_terminal()
+    }
+
+    fn today(&mut self) -> io::Result<u64> {
+        let now = SystemTime::now(self.rt)?;
+        match now.duration_since(SystemTime::UNIX_EPOCH) {
+            Ok(since) => Ok(since.as_secs() / 86400),
+            Err(_) => Err(io::Error::from(ErrorKind::InvalidData)),
+        }
     }
 }
 

@@ -4,6 +4,9 @@ ghost use Rattle.acpi_dump_lib.specs.Asked.{AreAlike, ChoosesNone, IsAsked, aske
 ghost use Rattle.clap.specs.Matches.{first_value, found_of};
 
 use crate::options::{Choice, Contents, refuse, refuse_option};
+use crate::words::{
+    Color, Format, Order, parse_color, parse_format, parse_order, parse_signature, parse_start,
+};
 use acpi::sdt::Signature;
 use acpi_cli::parse_address;
 use acpi_cli::root::{Root, parse_root};
@@ -37,14 +40,6 @@ pub(crate) enum View {
     Page,
 }
 
-/// When colors are printed.
-#[derive(Clone, Copy)]
-pub(crate) enum Color {
-    Auto,
-    Always,
-    Never,
-}
-
 /// What the arguments ask for.
 #[derive(Drop)]
 pub(crate) struct Request<'w> {
@@ -71,45 +66,13 @@ pub(crate) struct Request<'w> {
     pub(crate) ignored: &'w [&'w str],
     /// The least severity of what rules find that is shown, and that makes the status 4, if it is said.
     pub(crate) least: Option<Severity>,
+    /// The file of an earlier check's findings, which are left out.
+    pub(crate) baseline: Option<&'w str>,
+    /// The file of lines that accept findings, which are left out.
+    pub(crate) accepted: Option<&'w str>,
+    pub(crate) format: Format,
+    pub(crate) order: Order,
     pub(crate) color: Color,
-}
-
-/// A signature in either case: four bytes, in upper case if no table has lower-case letters.
-fn parse_signature(word: &str) -> Option<Option<Signature>> {
-    if word.eq_ignore_ascii_case("all") {
-        return Some(None);
-    }
-    if word.eq_ignore_ascii_case("madt") {
-        return Some(Some(Signature::MADT));
-    }
-    if word.eq_ignore_ascii_case("fadt") {
-        return Some(Some(Signature::FADT));
-    }
-    match word.as_bytes() {
-        [a, b, c, d] => Some(Some(Signature::from_bytes([*a, *b, *c, *d]))),
-        _ => None,
-    }
-}
-
-/// The way that `rsdt:REVISION:ADDRESS`, `rsdp:ADDRESS` or `bios` names.
-fn parse_start(word: &str) -> Option<Root> {
-    let Some((form, rest)) = word.split_once(':') else {
-        return parse_root(&[word]);
-    };
-    match rest.split_once(':') {
-        None => parse_root(&[form, rest]),
-        Some((revision, address)) => parse_root(&[form, revision, address]),
-    }
-}
-
-/// The moment that a word names.
-fn parse_color(word: &str) -> Option<Color> {
-    match word {
-        "auto" => Some(Color::Auto),
-        "always" => Some(Color::Always),
-        "never" => Some(Color::Never),
-        _ => None,
-    }
 }
 
 /// The options that ask for a view.
@@ -277,7 +240,68 @@ impl Request<'_> {
             let why = "--text, --extract and --html have no document";
             return Err(refuse_option(log, "json", why));
         }
+        if let Some((option, why)) = self.misplaced(matches) {
+            return Err(refuse_option(log, option, why));
+        }
         Ok(())
+    }
+
+    /// The first option that is there without the view that it is for, and what that is.
+    fn misplaced(&self, matches: &ArgMatches<'_>) -> Option<(&'static str, &'static str)> {
+        let is_checked = matches!(self.view, View::Findings);
+        let is_compared = matches!(self.view, View::Differences);
+        let are_saved = self.folder.is_some() || self.page.is_some();
+        let are_lines = is_checked && self.page.is_none() && !self.is_json;
+        let options = [
+            (
+                "ignore",
+                !self.ignored.is_empty(),
+                is_compared,
+                "it is for --compare",
+            ),
+            (
+                "exit-code",
+                self.is_exit_code,
+                is_compared,
+                "it is for --compare",
+            ),
+            (
+                "force",
+                self.is_forced,
+                are_saved,
+                "it is for --extract and --html",
+            ),
+            (
+                "baseline",
+                self.baseline.is_some(),
+                is_checked,
+                "it is for --check",
+            ),
+            (
+                "ignore-rules",
+                self.accepted.is_some(),
+                is_checked,
+                "it is for --check",
+            ),
+            (
+                "format",
+                matches.get_str("format").is_some(),
+                are_lines,
+                "it is for --check, without --html or --json",
+            ),
+            (
+                "sort",
+                matches.get_str("sort").is_some(),
+                is_checked,
+                "it is for --check",
+            ),
+        ];
+        for (option, is_there, has_view, why) in &options {
+            if *is_there && !*has_view {
+                return Some((*option, *why));
+            }
+        }
+        None
     }
 
     /// Takes the words after an image as a way to the root table, in place of more inputs, if they are to be one.
@@ -333,12 +357,23 @@ pub(crate) fn request_of<'m>(
     };
     let start = parse_start(word_of(matches, "start"));
     let color = parse_color(word_of(matches, "color"));
+    let format = parse_format(word_of(matches, "format"));
+    let order = parse_order(word_of(matches, "sort"));
     let mut request = Request {
         least,
         reading: reading_of(matches, log)?,
         start: checked(matches, log, "start", start)?,
         folder: checked(matches, log, "extract", name_of(matches, "extract"))?,
         page: checked(matches, log, "html", name_of(matches, "html"))?,
+        baseline: checked(matches, log, "baseline", name_of(matches, "baseline"))?,
+        accepted: checked(
+            matches,
+            log,
+            "ignore-rules",
+            name_of(matches, "ignore-rules"),
+        )?,
+        format: checked(matches, log, "format", format)?.unwrap_or(Format::Lines),
+        order: checked(matches, log, "sort", order)?.unwrap_or(Order::Tables),
         color: checked(matches, log, "color", color)?.unwrap_or(Color::Auto),
         view: View::Lines,
         choices: Vec::new(alloc),

@@ -71,6 +71,20 @@ impl<'d> Document<'d> {
         document
     }
 
+    /// The beginning of a document of another form than the program's own: an object.
+    pub(crate) fn of_other_form(alloc: Global) -> Document<'static> {
+        let mut document = Document {
+            pieces: Pretty::new(alloc),
+            inputs: &[],
+            part: "",
+            open: Vec::new(alloc),
+            draft: Out::new(alloc),
+            is_refused: false,
+        };
+        document.token(Token::BeginObject);
+        document
+    }
+
     /// Ends the list of what a view shows, and adds the inputs if they come after it.
     pub(crate) fn end_list(&mut self) {
         self.token(Token::EndArray);
@@ -93,6 +107,13 @@ impl<'d> Document<'d> {
     pub(crate) fn end(mut self, view: &str, out: &mut Out) -> Result<(), AllocError> {
         self.number("version", VERSION);
         self.text("view", view);
+        self.finish(out)
+    }
+
+    /// Prints the document after the end of its object.
+    ///
+    /// Fails if memory for a piece was refused.
+    pub(crate) fn finish(mut self, out: &mut Out) -> Result<(), AllocError> {
         self.token(Token::EndObject);
         if self.is_refused {
             return Err(AllocError);
@@ -110,8 +131,14 @@ impl<'d> Document<'d> {
         self.is_refused |= self.pieces.token(token).is_err();
     }
 
+    /// Begins a member that is an object.
+    pub(crate) fn begin_object(&mut self, name: &str) {
+        self.token(Token::Key(name));
+        self.token(Token::BeginObject);
+    }
+
     /// Begins a member that is a list.
-    fn begin_list(&mut self, name: &str) {
+    pub(crate) fn begin_list(&mut self, name: &str) {
         self.token(Token::Key(name));
         self.token(Token::BeginArray);
     }

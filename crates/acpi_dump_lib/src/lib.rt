@@ -4,6 +4,7 @@
 //! folder, and `--html` the page that it printed, and nothing else. What is printed is tested, and not proved.
 #![tactic(auto)]
 
+mod accepted;
 mod arguments;
 mod contents;
 mod document;
@@ -15,3 +16,4 @@ pub mod parser;
 pub mod run;
 mod summary;
 mod views;
+mod words;

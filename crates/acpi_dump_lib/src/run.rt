@@ -4,13 +4,15 @@ ghost use Rattle.acpi_dump_lib.specs.Asked.{asked_of, is_shown};
 ghost use Rattle.clap.specs.Values.{kind_of};
 ghost use Rattle.acpi_dump_lib.specs.Saves.{SavesAsked, SavesFor, SavesPaged, leaves_out};
 
-use crate::arguments::{Color, Request, View, request_of};
+use crate::accepted::Accepted;
+use crate::arguments::{Request, View, request_of};
 use crate::options::refuse_option;
 use crate::paint::Paint;
 use crate::parser::Parser;
 use crate::views::{
     Output, has_no_start, print_compared, print_input, print_rules, save_input, save_page,
 };
+use crate::words::Color;
 use acpi_dump_input::errors::{Log, Stop, tell};
 use acpi_dump_input::gather::gather;
 use acpi_dump_input::sources::{Sources, reason_of};
@@ -138,9 +140,11 @@ fn print_inputs<S: Sources, T: Storage>(
         Color::Always => true,
         Color::Never => false,
     };
+    let accepted = &Accepted::read(alloc, request, sources, log)?;
     let output = Output {
         alloc,
         request,
+        accepted,
         paint: Paint { is_on },
         number: 0,
     };

@@ -3,14 +3,17 @@
 mod compared;
 mod found;
 mod judged;
+mod junit;
 mod machine;
 mod page;
 mod read;
+mod sarif;
 
 ghost use Rattle.std.specs.Prelude.{◌≡◌};
 ghost use Rattle.acpi_dump_lib.specs.Asked.{asked_of};
 ghost use Rattle.acpi_dump_lib.specs.Saves.{SavesOrFails, leaves_out};
 
+use crate::accepted::Accepted;
 use crate::arguments::{Request, View};
 use crate::contents::{chosen_of, print_tables, tell_missing};
 use crate::document::{Document, add_all, add_chosen};
@@ -37,6 +40,8 @@ use std::alloc::Global;
 pub(crate) struct Output<'o> {
     pub(crate) alloc: Global,
     pub(crate) request: &'o Request<'o>,
+    /// What is left out of what rules find.
+    pub(crate) accepted: &'o Accepted<'o>,
     pub(crate) paint: Paint,
     /// The number of the input that is read.
     pub(crate) number: usize,
@@ -48,7 +53,7 @@ impl<'o> Output<'o> {
         Output { number: 1, ..self }
     }
 
-    /// The name of the input.
+    /// The name of the input, or of the first of several.
     fn name(self) -> &'o str {
         match self.request.inputs.get(self.number) {
             Some(name) => *name,

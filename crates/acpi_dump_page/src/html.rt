@@ -25,6 +25,7 @@ use acpi_dump_input::entries::Entry;
 use acpi_dump_input::judgement::Judgement;
 use acpi_dump_walk::out::Out;
 use escape::Piece::Printed;
+pub use escape::print_escaped;
 use escape::print_html;
 use findings::print_findings;
 use frame::{print_end, print_front};

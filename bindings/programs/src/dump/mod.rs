@@ -10,6 +10,7 @@
 // It is written as it is proved.
 #![allow(clippy::style, clippy::complexity, clippy::perf, clippy::manual_unwrap_or_default)]
 
+mod accepted;
 mod arguments;
 mod contents;
 mod document;
@@ -21,3 +22,4 @@ pub mod parser;
 pub mod run;
 mod summary;
 mod views;
+mod words;

@@ -23,6 +23,10 @@ force - Files of --extract and --html replace those that are there
 summary - The machine in short
 find - Every RSDP in memory, valid or not
 check [SEVERITY] What rules find wrong: all, or only what is an error, a warning or worse, or a note or worse
+baseline FILE A document of an earlier --check --json, whose findings are left out
+ignore-rules FILE Findings that are accepted, and left out: lines RULE [SIG [FIELD]] [until DATE]: REASON
+format FORMAT What --check prints in place of lines: sarif or junit
+sort KEY The order of what --check finds: by table, rule or severity
 rules - The rules of --check
 compare,c - What differs between two inputs
 exit-code - Status 1 if two inputs differ
@@ -117,6 +121,12 @@ fn usage_of(option: &str) -> &'static str {
         "extract" => "DIR, the name of a folder",
         "html" => "FILE, the name of a file",
         "check" => "error | warning | note",
+        "baseline" | "ignore-rules" => "FILE --check[=SEVERITY]",
+        "format" => "sarif | junit, with --check",
+        "sort" => "table | rule | severity, with --check",
+        "force" => "with --extract DIR | --html FILE",
+        "ignore" => "FIELD --compare A B",
+        "exit-code" => "--compare A B",
         "compare" => "A B",
         "json" => "[--table SIG].. [--hex SIG].. | --summary | --find | --compare | --check | --rules",
         "max-bytes" => "NUMBER, in decimal digits",

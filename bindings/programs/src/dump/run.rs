@@ -1,11 +1,13 @@
 // Made by scripts/erase of crates/acpi_dump_lib/src/run.rt, where it is proved.
 //! The program over any files, any storage and any writers.
 
-use crate::dump::arguments::{Color, Request, View, request_of};
+use crate::dump::accepted::Accepted;
+use crate::dump::arguments::{Request, View, request_of};
 use crate::dump::options::refuse_option;
 use crate::dump::paint::Paint;
 use crate::dump::parser::Parser;
 use crate::dump::views::{Output, has_no_start, print_compared, print_input, print_rules, save_input, save_page};
+use crate::dump::words::Color;
 use crate::input::errors::{Log, Stop, tell};
 use crate::input::gather::gather;
 use crate::input::sources::{Sources, reason_of};
@@ -112,7 +114,8 @@ fn print_inputs<S: Sources, T: Storage>(
         Color::Always => true,
         Color::Never => false,
     };
-    let output = Output { alloc, request, paint: Paint { is_on }, number: 0 };
+    let accepted = &Accepted::read(alloc, request, sources, log)?;
+    let output = Output { alloc, request, accepted, paint: Paint { is_on }, number: 0 };
     // No files are saved beside these views but the page of differences.
     match (request.view, request.folder, request.page) {
         (View::Differences, None, _) => return print_two(output, sources, storage, out, log),

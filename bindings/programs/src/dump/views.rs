@@ -4,10 +4,13 @@
 mod compared;
 mod found;
 mod judged;
+mod junit;
 mod machine;
 mod page;
 mod read;
+mod sarif;
 
+use crate::dump::accepted::Accepted;
 use crate::dump::arguments::{Request, View};
 use crate::dump::contents::{chosen_of, print_tables, tell_missing};
 use crate::dump::document::{Document, add_all, add_chosen};
@@ -34,6 +37,8 @@ use read::tables_in;
 pub(crate) struct Output<'o> {
     pub(crate) alloc: Global,
     pub(crate) request: &'o Request<'o>,
+    /// What is left out of what rules find.
+    pub(crate) accepted: &'o Accepted<'o>,
     pub(crate) paint: Paint,
     /// The number of the input that is read.
     pub(crate) number: usize,
@@ -45,7 +50,7 @@ impl<'o> Output<'o> {
         Output { number: 1, ..self }
     }
 
-    /// The name of the input.
+    /// The name of the input, or of the first of several.
     fn name(self) -> &'o str {
         match self.request.inputs.get(self.number) {
             Some(name) => *name,

@@ -28,6 +28,7 @@ use crate::rattle::Vec;
 use crate::rattle::alloc::{AllocError, Global};
 use crate::walk::out::Out;
 use escape::Piece::Printed;
+pub use escape::print_escaped;
 use escape::print_html;
 use findings::print_findings;
 use frame::{print_end, print_front};

@@ -15,7 +15,7 @@ pub mod vec;
 pub use crate::{format, println, vec};
 pub use pieces::Pieces;
 pub use runtime::io::ReadToEndIn;
-pub use runtime::{HostRuntime, env, io, process};
+pub use runtime::{HostRuntime, env, io, process, time};
 pub use slices::{CollectIn, ToVecIn};
 pub use string::{String, TryToString as ToString};
 pub use vec::Vec;

@@ -144,3 +144,19 @@ macro_rules! vec {
         $crate::rattle::Vec::from_array($alloc, [$($item),*])
     };
 }
+
+pub mod time {
+    pub use std::time::Duration;
+
+    /// The system's clock, which Rattle's std reads by the runtime.
+    pub struct SystemTime;
+
+    impl SystemTime {
+        pub const UNIX_EPOCH: std::time::SystemTime = std::time::SystemTime::UNIX_EPOCH;
+
+        /// Fails never: Rust's std panics where a system has no clock.
+        pub fn now(_: &super::HostRuntime) -> std::io::Result<std::time::SystemTime> {
+            Ok(std::time::SystemTime::now())
+        }
+    }
+}

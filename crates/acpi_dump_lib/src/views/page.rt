@@ -4,10 +4,9 @@ ghost use Rattle.std.specs.Prelude.{◌≡◌, IfOk, OnErr, Some, map};
 ghost use Rattle.acpi_dump_input.specs.Extract.{SavesPage};
 ghost use Rattle.acpi_dump_lib.specs.Saves.{SavesPaged, leaves_out};
 
-use super::judged::status_of;
+use super::judged::{findings_in, status_of};
 use super::read::{Tables, tables_in};
 use super::{Output, strict_status};
-use acpi_dump_check::findings_of;
 use acpi_dump_input::errors::{Log, Stop};
 use acpi_dump_input::extract::save_file;
 use acpi_dump_input::gather::Input;
@@ -26,8 +25,9 @@ fn print_judged_page(
     names: &[&str],
     tables: &Tables<'_>,
     page: &mut Out,
+    log: &mut Log,
 ) -> Result<u8, Stop> {
-    let findings = &findings_of(&tables.machine(output.alloc))?;
+    let findings = &findings_in(output, tables, log)?;
     let source = Source {
         alloc: output.alloc,
         input: Given {
@@ -54,7 +54,7 @@ fn print_any_page(
 ) -> Result<u8, Stop> {
     let tables = &tables_in(output, input, log)?;
     let Some(second) = second else {
-        return print_judged_page(output, None, output.request.inputs, tables, page);
+        return print_judged_page(output, None, output.request.inputs, tables, page, log);
     };
     let other = output.second();
     let judged = &tables_in(other, second, log)?;
@@ -62,7 +62,7 @@ fn print_any_page(
         names: &[output.name()],
         entries: &tables.entries,
     };
-    let status = print_judged_page(output, Some(first), &[other.name()], judged, page)?;
+    let status = print_judged_page(output, Some(first), &[other.name()], judged, page, log)?;
     Ok(status.max(strict_status(output, &tables.entries)))
 }
 

@@ -110,8 +110,9 @@ fn first_words(text: &str, most: usize) -> &str {
     }
 }
 
-/// Prints bytes as characters of a text or of an attribute in double quotes, those that aren't printable ASCII as `.`.
-pub(super) fn print_escaped(bytes: &[u8], out: &mut Out) {
+/// Prints bytes as characters of a text or of an attribute in double quotes, in HTML or XML, those that aren't printable
+/// ASCII as `.`.
+pub fn print_escaped(bytes: &[u8], out: &mut Out) {
     for byte in bytes {
         match *byte {
             b'&' => out.text("&amp;"),

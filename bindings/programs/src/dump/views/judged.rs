@@ -1,18 +1,33 @@
 // Made by scripts/erase of crates/acpi_dump_lib/src/views/judged.rt, where it is proved.
 //! What rules find in the tables of an input, and the rules themselves, as lines and as documents.
 
-use super::read::tables_in;
+use super::junit::print_junit;
+use super::read::{Tables, tables_in};
+use super::sarif::print_sarif;
 use super::{Output, strict_status};
 use crate::check::findings_of;
 use crate::check::rules::rules;
 use crate::dump::arguments::View;
 use crate::dump::document::Document;
+use crate::dump::words::{Format, Order};
 use crate::input::entries::{Entry, Place, own_signature, print_name};
 use crate::input::errors::{Log, Stop};
 use crate::input::gather::Input;
-use crate::input::judgement::{Judgement, Rule, Severity, counts_of};
+use crate::input::judgement::{Finding, Judgement, Rule, Severity, counts_of};
 use crate::json::Token;
+use crate::rattle::alloc::AllocError;
 use crate::walk::out::Out;
+
+/// Prints where a finding is, and its message.
+pub(super) fn print_finding(findings: &Judgement, finding: &Finding, entry: &Entry<'_>, out: &mut Out) {
+    print_name(entry, out);
+    write!(out, " 0x{:04x}", finding.offset);
+    if !finding.field.is_empty() {
+        out.fill(" $", &[finding.field]);
+    }
+    out.text(": ");
+    out.text(findings.message(finding));
+}
 
 /// Prints a line for each finding of a severity or a higher one, and how many they are.
 fn print_findings(findings: &Judgement, entries: &[Entry<'_>], least: Severity, out: &mut Out) {
@@ -22,13 +37,7 @@ fn print_findings(findings: &Judgement, entries: &[Entry<'_>], least: Severity, 
             && let Some(entry) = entries.get(finding.table)
         {
             out.fill("$ $: ", &[rule.severity.word(), rule.id]);
-            print_name(entry, out);
-            write!(out, " 0x{:04x}", finding.offset);
-            if !finding.field.is_empty() {
-                out.fill(" $", &[finding.field]);
-            }
-            out.text(": ");
-            out.text(findings.message(finding));
+            print_finding(findings, finding, entry, out);
             out.fill(" ($)\n", &[rule.section]);
         }
     }
@@ -67,21 +76,49 @@ fn add_findings(findings: &Judgement, entries: &[Entry<'_>], least: Severity, do
     }
 }
 
+/// What rules find in tables, but for what is left out of it.
+///
+/// Fails, after printing why, if what is to be left out can't be read, or if memory runs out.
+pub(super) fn findings_in(output: Output<'_>, tables: &Tables<'_>, log: &mut Log) -> Result<Judgement, Stop> {
+    let findings = findings_of(&tables.machine(output.alloc))?;
+    let accepted = output.accepted;
+    accepted.rest_of(output.alloc, findings, &tables.entries, log)
+}
+
+/// Puts findings into the order in which they are printed.
+///
+/// Fails if memory runs out.
+fn put_in_order(findings: &mut Judgement, order: Order) -> Result<(), AllocError> {
+    match order {
+        Order::Tables => Ok(()),
+        Order::Rules => findings.list.sort_by_key(|it| it.rule.id),
+        Order::Severities => {
+            let worst = Severity::Error.rank();
+            findings.list.sort_by_key(|it| worst.saturating_sub(it.rule.severity.rank()))
+        }
+    }
+}
+
 /// Prints what rules find in the tables of an input. Returns the status: 4 if something is bad.
 ///
 /// Fails, after printing why, if there are no tables, or if memory runs out.
 pub(super) fn print_judged(output: Output<'_>, input: &Input, out: &mut Out, log: &mut Log) -> Result<u8, Stop> {
     let tables = &tables_in(output, input, log)?;
-    let findings = &findings_of(&tables.machine(output.alloc))?;
+    let mut findings = findings_in(output, tables, log)?;
+    put_in_order(&mut findings, output.request.order)?;
+    let (findings, entries) = (&findings, tables.entries.as_slice());
     let least = output.request.least.unwrap_or(Severity::Note);
-    if output.request.is_json {
-        let mut document = output.document("findings");
-        add_findings(findings, &tables.entries, least, &mut document);
-        document.print("check", out)?;
-    } else {
-        print_findings(findings, &tables.entries, least, out);
+    match output.request.format {
+        Format::Sarif => print_sarif(output, findings, entries, out)?,
+        Format::Junit => print_junit(output, findings, entries, out)?,
+        Format::Lines if output.request.is_json => {
+            let mut document = output.document("findings");
+            add_findings(findings, entries, least, &mut document);
+            document.print("check", out)?;
+        }
+        Format::Lines => print_findings(findings, entries, least, out),
     }
-    Ok(status_of(output, &tables.entries, findings))
+    Ok(status_of(output, entries, findings))
 }
 
 /// The status if all is shown: 4 if something is bad and that is asked for, and else as of any other view.

@@ -1,10 +1,9 @@
 // Made by scripts/erase of crates/acpi_dump_lib/src/views/page.rt, where it is proved.
 //! A page of an input, or of what differs between two.
 
-use super::judged::status_of;
+use super::judged::{findings_in, status_of};
 use super::read::{Tables, tables_in};
 use super::{Output, strict_status};
-use crate::check::findings_of;
 use crate::input::errors::{Log, Stop};
 use crate::input::extract::save_file;
 use crate::input::gather::Input;
@@ -23,8 +22,9 @@ fn print_judged_page(
     names: &[&str],
     tables: &Tables<'_>,
     page: &mut Out,
+    log: &mut Log,
 ) -> Result<u8, Stop> {
-    let findings = &findings_of(&tables.machine(output.alloc))?;
+    let findings = &findings_in(output, tables, log)?;
     let source = Source {
         alloc: output.alloc,
         input: Given { names, entries: &tables.entries },
@@ -48,12 +48,12 @@ fn print_any_page(
 ) -> Result<u8, Stop> {
     let tables = &tables_in(output, input, log)?;
     let Some(second) = second else {
-        return print_judged_page(output, None, output.request.inputs, tables, page);
+        return print_judged_page(output, None, output.request.inputs, tables, page, log);
     };
     let other = output.second();
     let judged = &tables_in(other, second, log)?;
     let first = Given { names: &[output.name()], entries: &tables.entries };
-    let status = print_judged_page(output, Some(first), &[other.name()], judged, page)?;
+    let status = print_judged_page(output, Some(first), &[other.name()], judged, page, log)?;
     Ok(status.max(strict_status(output, &tables.entries)))
 }
 
