@@ -3,16 +3,34 @@ use clap::ValueHint;
 use clap_complete::Shell;
 use std::path::PathBuf;
 
+/// The signatures of the tables whose fields are known (crates/acpi_dump_walk/src/layouts).
+const SIGNATURES: &[&str] = &[
+    "all", "AEST", "AGDI", "APIC", "APMT", "ASF!", "BDAT", "BERT", "BGRT", "BOOT", "CCEL", "CEDT", "CPEP", "CSRT",
+    "DBG2", "DBGP", "DMAR", "DRTM", "DSDT", "ECDT", "EINJ", "ERST", "FACP", "FACS", "FPDT", "GTDT",
+    "HEST", "HMAT", "HPET", "IORT", "IVRS", "LPIT", "MCFG", "MCHI", "MISC", "MPAM", "MPST",
+    "MSCT", "MSDM", "MTMR", "NFIT", "NHLT", "PCCT", "PDTT", "PHAT", "PMTT", "PPTT", "PRMT", "RAS2", "RASF",
+    "RGRT", "RHCT", "RSDT", "SBST", "SDEI", "SDEV", "SLIC", "SLIT", "SPCR", "SPMI", "SRAT", "SSDT",
+    "STAO", "SVKL", "TCPA", "TPM2", "UEFI", "VIOT", "VRTC", "WAET", "WDAT", "WDDT", "WDRT", "WPBT", "WSMT",
+    "XENV", "XSDT",
+];
+
 /// What the values of options are: words for some, and files and folders.
-const WORDS: [(&str, &[&str]); 5] = [
+const WORDS: [(&str, &[&str]); 7] = [
     ("as", &["image", "memory", "text", "table"]),
-    ("table", &["all", "APIC", "DSDT", "FACP", "FACS", "HPET", "MCFG", "SPCR", "SRAT", "SSDT"]),
-    ("hex", &["all", "APIC", "DSDT", "FACP", "FACS", "HPET", "MCFG", "SPCR", "SRAT", "SSDT"]),
+    ("table", SIGNATURES),
+    ("hex", SIGNATURES),
     ("check", &["error", "warning", "note"]),
+    ("format", &["sarif", "junit"]),
+    ("sort", &["table", "rule", "severity"]),
     ("color", &["auto", "always", "never"]),
 ];
-const HINTS: [(&str, ValueHint); 3] =
-    [("extract", ValueHint::DirPath), ("html", ValueHint::FilePath), ("input", ValueHint::AnyPath)];
+const HINTS: [(&str, ValueHint); 5] = [
+    ("extract", ValueHint::DirPath),
+    ("html", ValueHint::FilePath),
+    ("baseline", ValueHint::FilePath),
+    ("ignore-rules", ValueHint::FilePath),
+    ("input", ValueHint::AnyPath),
+];
 
 fn main() -> std::io::Result<()> {
     let folder = PathBuf::from(std::env::args_os().nth(1).unwrap_or_else(|| ".".into()));
