@@ -6,12 +6,11 @@ use std::path::PathBuf;
 /// The signatures of the tables whose fields are known (crates/acpi_dump_walk/src/layouts).
 const SIGNATURES: &[&str] = &[
     "all", "AEST", "AGDI", "APIC", "APMT", "ASF!", "BDAT", "BERT", "BGRT", "BOOT", "CCEL", "CEDT", "CPEP", "CSRT",
-    "DBG2", "DBGP", "DMAR", "DRTM", "DSDT", "ECDT", "EINJ", "ERST", "FACP", "FACS", "FPDT", "GTDT",
-    "HEST", "HMAT", "HPET", "IORT", "IVRS", "LPIT", "MCFG", "MCHI", "MISC", "MPAM", "MPST",
-    "MSCT", "MSDM", "MTMR", "NFIT", "NHLT", "PCCT", "PDTT", "PHAT", "PMTT", "PPTT", "PRMT", "RAS2", "RASF",
-    "RGRT", "RHCT", "RSDT", "SBST", "SDEI", "SDEV", "SLIC", "SLIT", "SPCR", "SPMI", "SRAT", "SSDT",
-    "STAO", "SVKL", "TCPA", "TPM2", "UEFI", "VIOT", "VRTC", "WAET", "WDAT", "WDDT", "WDRT", "WPBT", "WSMT",
-    "XENV", "XSDT",
+    "DBG2", "DBGP", "DMAR", "DRTM", "DSDT", "ECDT", "EINJ", "ERST", "FACP", "FACS", "FPDT", "GTDT", "HEST", "HMAT",
+    "HPET", "IORT", "IVRS", "LPIT", "MCFG", "MCHI", "MISC", "MPAM", "MPST", "MSCT", "MSDM", "MTMR", "NFIT", "NHLT",
+    "PCCT", "PDTT", "PHAT", "PMTT", "PPTT", "PRMT", "RAS2", "RASF", "RGRT", "RHCT", "RSDT", "SBST", "SDEI", "SDEV",
+    "SLIC", "SLIT", "SPCR", "SPMI", "SRAT", "SSDT", "STAO", "SVKL", "TCPA", "TPM2", "UEFI", "VIOT", "VRTC", "WAET",
+    "WDAT", "WDDT", "WDRT", "WPBT", "WSMT", "XENV", "XSDT",
 ];
 
 /// What the values of options are: words for some, and files and folders.
