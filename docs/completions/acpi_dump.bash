@@ -19,7 +19,7 @@ _acpi_dump() {
 
     case "${cmd}" in
         acpi_dump)
-            opts="-c -j -h -V -t -o --at --start --text --force --summary --find --baseline --ignore-rules --format --sort --rules --compare --exit-code --ignore --json --strict --max-bytes --help --version --as --table --hex --color --check --extract --html [INPUT]..."
+            opts="-c -j -h -V -t -o --at --start --text --force --summary --find --rules --compare --exit-code --ignore --json --strict --max-bytes --help --version --as --table --hex --format --sort --color --check --extract --html --baseline --ignore-rules [INPUT]..."
             if [[ ${cur} == -* || ${COMP_CWORD} -eq 1 ]] ; then
                 COMPREPLY=( $(compgen -W "${opts}" -- "${cur}") )
                 return 0
@@ -30,22 +30,6 @@ _acpi_dump() {
                     return 0
                     ;;
                 --start)
-                    COMPREPLY=($(compgen -f "${cur}"))
-                    return 0
-                    ;;
-                --baseline)
-                    COMPREPLY=($(compgen -f "${cur}"))
-                    return 0
-                    ;;
-                --ignore-rules)
-                    COMPREPLY=($(compgen -f "${cur}"))
-                    return 0
-                    ;;
-                --format)
-                    COMPREPLY=($(compgen -f "${cur}"))
-                    return 0
-                    ;;
-                --sort)
                     COMPREPLY=($(compgen -f "${cur}"))
                     return 0
                     ;;
@@ -62,15 +46,23 @@ _acpi_dump() {
                     return 0
                     ;;
                 --table)
-                    COMPREPLY=($(compgen -W "all APIC DSDT FACP FACS HPET MCFG SPCR SRAT SSDT" -- "${cur}"))
+                    COMPREPLY=($(compgen -W "all AEST AGDI APIC APMT ASF! BDAT BERT BGRT BOOT CCEL CEDT CPEP CSRT DBG2 DBGP DMAR DRTM DSDT ECDT EINJ ERST FACP FACS FPDT GTDT HEST HMAT HPET IORT IVRS LPIT MCFG MCHI MISC MPAM MPST MSCT MSDM MTMR NFIT NHLT PCCT PDTT PHAT PMTT PPTT PRMT RAS2 RASF RGRT RHCT RSDT SBST SDEI SDEV SLIC SLIT SPCR SPMI SRAT SSDT STAO SVKL TCPA TPM2 UEFI VIOT VRTC WAET WDAT WDDT WDRT WPBT WSMT XENV XSDT" -- "${cur}"))
                     return 0
                     ;;
                 -t)
-                    COMPREPLY=($(compgen -W "all APIC DSDT FACP FACS HPET MCFG SPCR SRAT SSDT" -- "${cur}"))
+                    COMPREPLY=($(compgen -W "all AEST AGDI APIC APMT ASF! BDAT BERT BGRT BOOT CCEL CEDT CPEP CSRT DBG2 DBGP DMAR DRTM DSDT ECDT EINJ ERST FACP FACS FPDT GTDT HEST HMAT HPET IORT IVRS LPIT MCFG MCHI MISC MPAM MPST MSCT MSDM MTMR NFIT NHLT PCCT PDTT PHAT PMTT PPTT PRMT RAS2 RASF RGRT RHCT RSDT SBST SDEI SDEV SLIC SLIT SPCR SPMI SRAT SSDT STAO SVKL TCPA TPM2 UEFI VIOT VRTC WAET WDAT WDDT WDRT WPBT WSMT XENV XSDT" -- "${cur}"))
                     return 0
                     ;;
                 --hex)
-                    COMPREPLY=($(compgen -W "all APIC DSDT FACP FACS HPET MCFG SPCR SRAT SSDT" -- "${cur}"))
+                    COMPREPLY=($(compgen -W "all AEST AGDI APIC APMT ASF! BDAT BERT BGRT BOOT CCEL CEDT CPEP CSRT DBG2 DBGP DMAR DRTM DSDT ECDT EINJ ERST FACP FACS FPDT GTDT HEST HMAT HPET IORT IVRS LPIT MCFG MCHI MISC MPAM MPST MSCT MSDM MTMR NFIT NHLT PCCT PDTT PHAT PMTT PPTT PRMT RAS2 RASF RGRT RHCT RSDT SBST SDEI SDEV SLIC SLIT SPCR SPMI SRAT SSDT STAO SVKL TCPA TPM2 UEFI VIOT VRTC WAET WDAT WDDT WDRT WPBT WSMT XENV XSDT" -- "${cur}"))
+                    return 0
+                    ;;
+                --format)
+                    COMPREPLY=($(compgen -W "sarif junit" -- "${cur}"))
+                    return 0
+                    ;;
+                --sort)
+                    COMPREPLY=($(compgen -W "table rule severity" -- "${cur}"))
                     return 0
                     ;;
                 --color)
@@ -90,6 +82,14 @@ _acpi_dump() {
                     return 0
                     ;;
                 --html)
+                    COMPREPLY=($(compgen -f "${cur}"))
+                    return 0
+                    ;;
+                --baseline)
+                    COMPREPLY=($(compgen -f "${cur}"))
+                    return 0
+                    ;;
+                --ignore-rules)
                     COMPREPLY=($(compgen -f "${cur}"))
                     return 0
                     ;;

@@ -1,18 +1,18 @@
 complete -c acpi_dump -l at -d 'The address of raw memory\'s first byte' -r
 complete -c acpi_dump -l start -d 'The way to the root table: rsdt:REVISION:ADDRESS, rsdp:ADDRESS or bios' -r
-complete -c acpi_dump -l baseline -d 'A document of an earlier --check --json, whose findings are left out' -r
-complete -c acpi_dump -l ignore-rules -d 'Findings that are accepted, and left out: lines RULE [SIG [FIELD]] [until DATE]: REASON' -r
-complete -c acpi_dump -l format -d 'What --check prints in place of lines: sarif or junit' -r
-complete -c acpi_dump -l sort -d 'The order of what --check finds: by table, rule or severity' -r
 complete -c acpi_dump -l ignore -d 'Fields that are left out of what differs' -r
 complete -c acpi_dump -l max-bytes -d 'How many bytes an input has at most: 1073741824 if it isn\'t said' -r
 complete -c acpi_dump -l as -d 'What the input is: image, memory, text or table' -r -f -a "{image	,memory	,text	,table	}"
-complete -c acpi_dump -s t -l table -d 'The fields of the tables of a signature, or of all' -r -f -a "{all	,APIC	,DSDT	,FACP	,FACS	,HPET	,MCFG	,SPCR	,SRAT	,SSDT	}"
-complete -c acpi_dump -l hex -d 'The bytes of the tables of a signature, or of all' -r -f -a "{all	,APIC	,DSDT	,FACP	,FACS	,HPET	,MCFG	,SPCR	,SRAT	,SSDT	}"
+complete -c acpi_dump -s t -l table -d 'The fields of the tables of a signature, or of all' -r -f -a "{all	,AEST	,AGDI	,APIC	,APMT	,ASF!	,BDAT	,BERT	,BGRT	,BOOT	,CCEL	,CEDT	,CPEP	,CSRT	,DBG2	,DBGP	,DMAR	,DRTM	,DSDT	,ECDT	,EINJ	,ERST	,FACP	,FACS	,FPDT	,GTDT	,HEST	,HMAT	,HPET	,IORT	,IVRS	,LPIT	,MCFG	,MCHI	,MISC	,MPAM	,MPST	,MSCT	,MSDM	,MTMR	,NFIT	,NHLT	,PCCT	,PDTT	,PHAT	,PMTT	,PPTT	,PRMT	,RAS2	,RASF	,RGRT	,RHCT	,RSDT	,SBST	,SDEI	,SDEV	,SLIC	,SLIT	,SPCR	,SPMI	,SRAT	,SSDT	,STAO	,SVKL	,TCPA	,TPM2	,UEFI	,VIOT	,VRTC	,WAET	,WDAT	,WDDT	,WDRT	,WPBT	,WSMT	,XENV	,XSDT	}"
+complete -c acpi_dump -l hex -d 'The bytes of the tables of a signature, or of all' -r -f -a "{all	,AEST	,AGDI	,APIC	,APMT	,ASF!	,BDAT	,BERT	,BGRT	,BOOT	,CCEL	,CEDT	,CPEP	,CSRT	,DBG2	,DBGP	,DMAR	,DRTM	,DSDT	,ECDT	,EINJ	,ERST	,FACP	,FACS	,FPDT	,GTDT	,HEST	,HMAT	,HPET	,IORT	,IVRS	,LPIT	,MCFG	,MCHI	,MISC	,MPAM	,MPST	,MSCT	,MSDM	,MTMR	,NFIT	,NHLT	,PCCT	,PDTT	,PHAT	,PMTT	,PPTT	,PRMT	,RAS2	,RASF	,RGRT	,RHCT	,RSDT	,SBST	,SDEI	,SDEV	,SLIC	,SLIT	,SPCR	,SPMI	,SRAT	,SSDT	,STAO	,SVKL	,TCPA	,TPM2	,UEFI	,VIOT	,VRTC	,WAET	,WDAT	,WDDT	,WDRT	,WPBT	,WSMT	,XENV	,XSDT	}"
+complete -c acpi_dump -l format -d 'What --check prints in place of lines: sarif or junit' -r -f -a "{sarif	,junit	}"
+complete -c acpi_dump -l sort -d 'The order of what --check finds: by table, rule or severity' -r -f -a "{table	,rule	,severity	}"
 complete -c acpi_dump -l color -d 'auto, always or never' -r -f -a "{auto	,always	,never	}"
 complete -c acpi_dump -l check -d 'What rules find wrong: all, or only what is an error, a warning or worse, or a note or worse' -r -f -a "{error	,warning	,note	}"
 complete -c acpi_dump -s o -l extract -d 'Each table, or those of --table, as a file in this folder: SIG.dat, or SIG1.dat and so on' -r -f -a "(__fish_complete_directories)"
 complete -c acpi_dump -l html -d 'A page of all of it: the machine drawn, what rules find, and each table\'s fields beside its bytes; - prints it' -r -F
+complete -c acpi_dump -l baseline -d 'A document of an earlier --check --json, whose findings are left out' -r -F
+complete -c acpi_dump -l ignore-rules -d 'Findings that are accepted, and left out: lines RULE [SIG [FIELD]] [until DATE]: REASON' -r -F
 complete -c acpi_dump -l text -d 'The text of acpidump, of all tables or of those of --table'
 complete -c acpi_dump -l force -d 'Files of --extract and --html replace those that are there'
 complete -c acpi_dump -l summary -d 'The machine in short'

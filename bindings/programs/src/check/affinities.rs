@@ -23,6 +23,9 @@ srat-overlap error ACPI 6.5, section 5.2.16.2 | Ranges of memory of two domains 
 srat-empty warning ACPI 6.5, section 5.2.16.2 | A range of memory has no bytes | is %
 srat-past-end error ACPI 6.5, section 5.2.16.2 | A range of memory ends above 2^64 | # bytes from # on end above 2^64
 srat-repeated warning ACPI 6.5, section 5.2.16.2 | Ranges of memory of one domain overlap | # is in the range at # too
+srat-reserved-type note ACPI 6.5, section 5.2.16 | An entry has a reserved type | # is reserved
+slit-no-srat warning ACPI 6.5, section 5.2.17 | There are localities, but no SRAT says what is in them \
+    | the machine has no SRAT
 slit-diagonal error ACPI 6.5, section 5.2.17 | The distance of a locality from itself isn't 10 \
     | locality % is at % from itself
 slit-reserved-distance error ACPI 6.5, section 5.2.17 | A distance is one of 0 to 9, which are reserved \
@@ -59,6 +62,12 @@ const PROCESSORS: [Kept; 6] = [
 /// Judges the first SRAT beside the first MADT and the first SLIT.
 pub(crate) fn check_affinities(machine: &Machine<'_>, findings: &mut Findings) {
     let Some((index, srat)) = machine.first(Signature::SRAT) else {
+        if let Some((index, _)) = machine.first(Signature::SLIT)
+            && machine.is_whole()
+        {
+            findings.table = index;
+            findings.add("slit-no-srat", 0, &[]);
+        }
         return;
     };
     findings.table = index;
@@ -98,8 +107,12 @@ fn add_processors(madt: &[u8], numbers: &mut Numbers) -> bool {
 pub(crate) fn check_ranges(srat: &[u8], findings: &mut Findings) {
     let mut ranges = Vec::new(findings.alloc);
     for (offset, entry) in Pieces::of(srat, 48, (1, 1)) {
-        // Type.
-        if field(entry, 0, 1) == 1
+        let kind = field(entry, 0, 1);
+        // Type 7 is a RISC-V hart's.
+        if kind > 7 {
+            findings.add("srat-reserved-type", offset, &[kind]);
+        }
+        if kind == 1
             && let Some(share) = share_of(srat, entry)
             && let Some(range) = range_of(offset, entry, share.domain as u64, findings)
         {

@@ -2,7 +2,9 @@
 //! The FADT (ACPI 6.5, section 5.2.9).
 
 use crate::check::findings::Findings;
-use zacpi::sdt::field;
+use crate::check::machine::Machine;
+use crate::check::pieces::Pieces;
+use zacpi::sdt::{Signature, field};
 
 pub(crate) const RULES: &str = "
 fadt-dsdt-differs warning ACPI 6.5, section 5.2.9 | DSDT and X_DSDT are two addresses \
@@ -13,6 +15,14 @@ fadt-no-dsdt error ACPI 6.5, section 5.2.9 | Neither DSDT nor X_DSDT is an addre
 fadt-no-facs error ACPI 6.5, section 5.2.9 | Neither FIRMWARE_CTRL nor X_FIRMWARE_CTRL is an address on fixed hardware \
     | is 0, as X_FIRMWARE_CTRL is
 fadt-block-differs warning ACPI 6.5, section 5.2.9 | The two fields of a block of registers give it two places
+fadt-no-block error ACPI 6.5, section 4.8.3 | Fixed hardware has a block of registers at no place \
+    | is 0, and so is its generic address
+fadt-space error ACPI 6.5, section 5.2.9 | A block of registers is neither in memory nor at ports \
+    | has address space %
+fadt-access-size error ACPI 6.5, section 5.2.3.2 | The Access Size of a register is a reserved one | % is reserved
+fadt-arm-fixed error ACPI 6.5, section 5.2.9 | A machine of GICs has fixed hardware | HW_REDUCED_ACPI isn't set
+fadt-no-psci warning ACPI 6.5, section 5.2.9.4 | A machine of GICs starts processors neither by PSCI nor by mailboxes \
+    | PSCI_COMPLIANT isn't set, and the processor at # of the MADT has no Parked Address
 fadt-block-width warning ACPI 6.5, section 5.2.9 | The Register Bit Width of a block isn't that of its length
 fadt-event-length error ACPI 6.5, section 5.2.9 | PM1_EVT_LEN is under 4 | is %
 fadt-control-length error ACPI 6.5, section 5.2.9 | PM1_CNT_LEN is under 2 | is %
@@ -64,7 +74,9 @@ pub(crate) fn check_fadt(fadt: &[u8], findings: &mut Findings) {
     }
     for block in &BLOCKS {
         check_block(fadt, *block, is_reduced, findings);
+        check_register(fadt, block.3, findings);
     }
+    check_register(fadt, 116, findings);
 }
 
 /// Judges the addresses of the DSDT and the FACS.
@@ -97,6 +109,13 @@ fn check_block(fadt: &[u8], block: Block, is_reduced: bool, findings: &mut Findi
         }
         return;
     }
+    // PM1a_EVT_BLK, PM1a_CNT_BLK and PM_TMR_BLK: the others may be left out.
+    if matches!(narrow, 56 | 64 | 76) && length != 0 && port == 0 && address == 0 {
+        findings.add("fadt-no-block", narrow, &[]);
+    }
+    if address != 0 && space > 1 {
+        findings.add("fadt-space", wide, &[space]);
+    }
     if address != 0 && port != 0 && (address != port || space != 1) {
         let start = findings.text.length();
         write!(findings.text, "0x{address:x} in space {space}, and {name} is port 0x{port:x}");
@@ -107,5 +126,45 @@ fn check_block(fadt: &[u8], block: Block, is_reduced: bool, findings: &mut Findi
         let start = findings.text.length();
         write!(findings.text, "{width} bits wide, and {name} has {length} bytes");
         findings.end("fadt-block-width", wide, start);
+    }
+}
+
+/// Judges the Access Size of the generic address at an offset, if it is one.
+fn check_register(fadt: &[u8], offset: usize, findings: &mut Findings) {
+    let register = fadt.get(offset..).unwrap_or(&[]);
+    let (size, address) = (field(register, 3, 1), field(register, 4, 8));
+    if address != 0 && size > 4 {
+        findings.add("fadt-access-size", offset.saturating_add(3), &[size]);
+    }
+}
+
+/// Judges the first FADT beside the first MADT, if that has a processor with a GIC. Such a machine has reduced hardware,
+/// and starts its processors by PSCI or by the mailboxes at their Parked Addresses.
+pub(crate) fn check_arm(machine: &Machine<'_>, findings: &mut Findings) {
+    let (Some((index, fadt)), Some((_, madt))) = (machine.first(Signature::FADT), machine.first(Signature::MADT))
+    else {
+        return;
+    };
+    let mut has_gic = false;
+    let mut parked = None;
+    for (offset, entry) in Pieces::of(madt, 44, (1, 1)) {
+        // A GIC CPU interface that is enabled, and its Parked Address.
+        if field(entry, 0, 1) == 0xb && field(entry, 12, 4) & 1 != 0 {
+            has_gic = true;
+            if field(entry, 24, 8) == 0 {
+                parked = Some(offset as u64);
+            }
+        }
+    }
+    findings.table = index;
+    // HW_REDUCED_ACPI.
+    if has_gic && field(fadt, 112, 4) & 1 << 20 == 0 {
+        findings.add("fadt-arm-fixed", 112, &[]);
+    }
+    // PSCI_COMPLIANT of ARM_BOOT_ARCH.
+    if let Some(offset) = parked
+        && field(fadt, 129, 2) & 1 == 0
+    {
+        findings.add("fadt-no-psci", 129, &[offset]);
     }
 }

@@ -14,7 +14,8 @@ cedt-window-empty error CXL 3.0, section 9.17.1 | A window has no bytes | is %
 cedt-window-size error CXL 3.0, section 9.17.1 | A window's size isn't a multiple of 256 MiB \
     | # isn't a multiple of 0x10000000
 dmar-base error Intel VT-d 4.0, section 8.3 | A unit's registers are at no page | # is no page of 0x1000
-dmar-width error Intel VT-d 4.0, section 8.1 | Host Address Width is above 64 bits \
+dmar-base-twice error Intel VT-d 4.0, section 8.3 | Two units have one register base | # is also at #
+dmar-width error Intel VT-d 4.0, section 8.1 | Host Address Width is under 32 bits, or above 64 \
     | is %, which is 1 less than the width
 ecdt-address error ACPI 6.5, section 5.2.15 | A register of the embedded controller is at address 0 | is #
 ecdt-id warning ACPI 6.5, section 5.2.15 | EC_ID is no path from the root on | begins with #, and not with a backslash
@@ -68,6 +69,9 @@ rhct-isa error ACPI 6.6, RHCT | The string of instruction sets has no letters | 
 rhct-mmu error ACPI 6.6, RHCT | The type of an MMU is a reserved one | % is reserved
 rhct-reference error ACPI 6.6, RHCT | A hart has a node that the table lacks | no node begins at #
 rhct-uid-twice error ACPI 6.6, RHCT | Two harts have one UID | UID % is also at #
+spcr-space error Microsoft: Serial Port Console Redirection Table | The port is neither in memory nor at ports \
+    | has address space %
+spcr-zero warning Microsoft: Serial Port Console Redirection Table | A port with a register is at address 0 | is #
 viot-base error Virtual I/O Translation Table | Registers are at address 0 | is #
 viot-endpoint warning Virtual I/O Translation Table | Two devices in memory have one Endpoint ID | # is also at #
 viot-nodes error Virtual I/O Translation Table | The nodes begin in the table's own fields | is %, and these end at 48
@@ -83,6 +87,8 @@ wdat-space error Microsoft: Hardware Watchdog Timers | A register is neither in 
 /// The rows, as the head of `rows.rt` describes them.
 pub(crate) const ROWS: &str = "
 = APIC
+Flags | Processor Local APIC | madt-processor-flags named
+Flags | Processor Local x2APIC | madt-processor-flags named
 Bus | Interrupt Source Override | madt-override-bus 0
 Source | Interrupt Source Override | madt-override-source 0-15
 Local APIC LINT# | Local APIC NMI | madt-lint 0-1
@@ -111,9 +117,10 @@ Window Size | CXL Fixed Memory Window Structure (CFMWS) | cedt-window-empty 1-0x
 Window Size | CXL Fixed Memory Window Structure (CFMWS) | cedt-window-size !0xfffffff
 
 = DMAR
-Host Address Width | - | dmar-width 0-63
+Host Address Width | - | dmar-width 31-63
 Register Base Address | DMA Remapping Hardware Unit Definition (DRHD) | dmar-base 0x1000-0xfffffffffffff000
 Register Base Address | DMA Remapping Hardware Unit Definition (DRHD) | dmar-base !0xfff
+Register Base Address | DMA Remapping Hardware Unit Definition (DRHD) | dmar-base-twice once
 
 = ECDT
 EC_CONTROL | - | ecdt-space 0-1 0:1
@@ -229,6 +236,10 @@ MMU Type | MMU Node | rhct-mmu 0-2
 ACPI Processor UID | Hart Info Node | rhct-uid-twice once
 Offset | Hart Info Node | rhct-reference of | ISA String Node \
     | Cache Management Operation (CMO) Extension Node | MMU Node
+
+= SPCR 40:4 1-0xffffffff
+Base Address | - | spcr-space 0-1 0:1
+Base Address | - | spcr-zero 1-0xffffffffffffffff 4:8
 
 = TPM2 64:4 1-0xffffffff
 Log Area Start Address (LASA) | - | tpm2-log 1-0xffffffffffffffff

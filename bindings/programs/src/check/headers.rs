@@ -19,6 +19,8 @@ header-refused error ACPI 6.5, section 5.2.6 | A table has no valid header, or i
 header-bytes-after warning ACPI 6.5, section 5.2.6 | Bytes come after those that the Length counts \
     | is %, and % more come
 table-malformed error ACPI 6.5, section 5.2 | A structure or a list of a table isn't as its type and its length want it
+header-short error ACPI 6.5, section 5.2.6 | The Length ends in the fields of the table's revision \
+    | is %, and the fields of revision % take %
 header-length warning ACPI 6.5, section 5.2.6 | The Length isn't one that the table's revision has
 header-revision note ACPI 6.5, section 5.2.6 | No specification has the table's Revision \
     | no revision % is known
@@ -28,16 +30,15 @@ header-reserved note ACPI 6.5, section 5.2.1 | A reserved field isn't 0 | isn't 
 field-code note ACPI 6.5, section 5.2.1 | A code or a flag is one that no specification names | # is reserved
 ";
 
-/// The forms of tables: the signature, the revision or the first and the last one that have it, and the length: a least
-/// one and, after `+`, steps from that on. Each table's own specification has them.
+/// The forms of tables: the signature, the revision or the first and the last one that have it, and the length: the
+/// least one and, after `+`, steps from that on, or after `/` further ones, as FADTs of later revisions may have the
+/// fields of earlier ones alone. Each table's own specification has them.
 const FORMS: &str = "\
 RSDT 1 36+4
 XSDT 1 36+8
 FACP 1 116
 FACP 2 132
-FACP 3-4 244
-FACP 5 268
-FACP 6 276
+FACP 3-6 244/268/276
 DSDT 1-2 36+1
 SSDT 1-2 36+1
 APIC 1-7 44+1
@@ -68,7 +69,12 @@ WAET 1 40
 TPM2 3-5 52+1
 BOOT 1 40
 WSMT 1 40
-UEFI 1 54+1";
+UEFI 1 54+1
+TCPA 0-255 50+1
+DMAR 0-255 48+1
+IVRS 0-255 48+1
+IORT 0-255 48+1
+VIOT 0-255 48+1";
 
 /// Judges a table's header, if it has one, and each field by itself.
 pub(crate) fn check_header(entry: &Entry<'_>, findings: &mut Findings) {
@@ -166,16 +172,35 @@ fn check_form(table: &[u8], name: &str, findings: &mut Findings) -> bool {
 /// Judges the length of a table, which is to be that of a form.
 fn check_length(table: &[u8], form: &str, findings: &mut Findings) {
     let (length, revision) = (field(table, 4, 4), field(table, 8, 1));
-    let (least, step) = cut_at(form, '+');
-    let (least, step) = (number_of(least).unwrap_or(0), number_of(step).unwrap_or(0));
-    let is_right = match length.checked_sub(least) {
+    let (least, _) = lengths_of(cut_at(form, '/').0);
+    if length < 36 {
+        return;
+    }
+    if length < least {
+        return findings.add("header-short", 4, &[length, revision, least]);
+    }
+    let is_right = form.pieces('/').any(|part| has_length(length, part));
+    if !is_right {
+        let start = findings.text.length();
+        let numbers = [length, revision];
+        findings.text.words("is %, and for revision % ", &numbers);
+        findings.text.text(form);
+        findings.end("header-length", 4, start);
+    }
+}
+
+/// The least length of a form's part, and the steps from that on, or 0.
+fn lengths_of(part: &str) -> (u64, u64) {
+    let (least, step) = cut_at(part, '+');
+    (number_of(least).unwrap_or(0), number_of(step).unwrap_or(0))
+}
+
+/// Whether a length is one of a form's part.
+fn has_length(length: u64, part: &str) -> bool {
+    let (least, step) = lengths_of(part);
+    match length.checked_sub(least) {
         Some(over) if step > 0 => over % step == 0,
         over => over == Some(0),
-    };
-    if length >= 36 && !is_right {
-        let words = if step > 0 { "is %, and for revision % %+%" } else { "is %, and for revision % %" };
-        let numbers = &[length, revision, least, step];
-        findings.add_words("header-length", 4, words, numbers);
     }
 }
 

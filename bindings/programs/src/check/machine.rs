@@ -26,6 +26,24 @@ pub(crate) fn table_of<'a>(entry: &Entry<'a>) -> Option<&'a [u8]> {
 }
 
 impl<'a> Machine<'a> {
+    /// Whether it has all tables, as far as that can be told: an RSDT or an XSDT lists no more tables than there are,
+    /// and of none the bytes are missing.
+    pub(crate) fn is_whole(&self) -> bool {
+        let (mut listed, mut count) = (None, 0usize);
+        for entry in self.entries {
+            match own_signature(entry.bytes).as_str().unwrap_or("") {
+                "XSDT" => listed = Some(entry.bytes.len().saturating_sub(36) / 8),
+                "RSDT" => listed = listed.or(Some(entry.bytes.len().saturating_sub(36) / 4)),
+                "RSD " | "DSDT" | "FACS" => {}
+                _ => count = count.saturating_add(1),
+            }
+            if entry.bytes.is_empty() {
+                return false;
+            }
+        }
+        matches!(listed, Some(listed) if listed <= count)
+    }
+
     /// The first table of a signature, as `table_of` returns it, after its number among the entries.
     pub(crate) fn first(&self, signature: Signature) -> Option<(usize, &'a [u8])> {
         for (index, entry) in self.entries.iter().enumerate() {

@@ -3,6 +3,7 @@
 
 use crate::check::findings::Findings;
 use crate::check::numbers::{Kept, Numbers};
+use crate::check::pieces::Pieces;
 use zacpi::base::bytes::skip;
 use zacpi::base::entries::split_front;
 use zacpi::madt::MADT_GRAMMAR;
@@ -15,7 +16,10 @@ madt-duplicate-apic-id error ACPI 6.5, section 5.2.12 | Two enabled processors h
 madt-duplicate-uid error ACPI 6.5, section 5.2.12 | Two enabled processors have one UID | UID # is also at #
 madt-duplicate-mpidr error ACPI 6.5, section 5.2.12.14 | Two enabled processors have one MPIDR | MPIDR # is also at #
 madt-x2apic-below-255 note ACPI 6.5, section 5.2.12.12 | A Local x2APIC is for an id under 255 \
-    | % is one that a Processor Local APIC can have
+    | % is one that a Processor Local APIC can have (% such ids)
+madt-no-processor error ACPI 6.5, section 5.2.12 | No processor is enabled | none of % processors is enabled
+madt-processor-flags note ACPI 6.5, section 5.2.12.2 | A reserved flag of a local APIC is set \
+    | has the reserved flags #
 madt-no-io-apic warning ACPI 6.5, section 5.2.12.3 | There are local APICs, but no I/O APIC | no I/O APIC serves it
 madt-duplicate-io-apic warning ACPI 6.5, section 5.2.12.3 | Two I/O APICs have one id | id # is also at #
 madt-duplicate-gsi-base error ACPI 6.5, section 5.2.12.3 | Two I/O APICs have one interrupt base | base # is also at #
@@ -53,6 +57,8 @@ const DISTRIBUTORS: u64 = 6;
 
 const OVERRIDES: u64 = 7;
 
+const LOW: u64 = 8; // of enabled local x2APICs, under 255
+
 /// The rules that no number comes twice in a list, for the first lists.
 const REPEATED: [&str; 7] = [
     "madt-duplicate-apic-id",
@@ -79,6 +85,9 @@ const KEPT: [Kept; 11] = [
     (0xc, DISTRIBUTORS, (0, 0), 0),
 ];
 
+/// Processors: the type of the entry, and the offset of its flags.
+const PROCESSORS: [(u64, usize); 6] = [(0, 4), (7, 8), (9, 8), (0xb, 12), (0x11, 11), (0x18, 4)];
+
 /// Judges a MADT.
 pub(crate) fn check_madt(madt: &[u8], findings: &mut Findings) {
     let mut numbers = Numbers::new(findings.alloc);
@@ -86,12 +95,18 @@ pub(crate) fn check_madt(madt: &[u8], findings: &mut Findings) {
     while let Some((entry, others)) = split_front(&MADT_GRAMMAR, rest) {
         let offset = madt.len().saturating_sub(rest.len());
         numbers.add(&KEPT, offset, entry);
+        let (id, flags) = (field(entry, 4, 4), field(entry, 8, 4)); // of a Processor Local x2APIC
+        if field(entry, 0, 1) == 9 && id < 255 && flags & 1 != 0 {
+            numbers.push(LOW, id, offset.saturating_add(4));
+        }
         check_entry(offset, entry, findings);
         rest = others;
     }
     findings.add_repeated(&REPEATED, &mut numbers);
     check_controllers(&numbers, findings);
     check_references(&numbers, findings);
+    check_low(&numbers, findings);
+    check_enabled(madt, findings);
 }
 
 /// Judges the entry at an offset by itself.
@@ -99,10 +114,6 @@ fn check_entry(offset: usize, entry: &[u8], findings: &mut Findings) {
     let kind = field(entry, 0, 1);
     if (0x1c..0x80).contains(&kind) {
         findings.add("madt-reserved-type", offset, &[kind]);
-    }
-    let (id, flags) = (field(entry, 4, 4), field(entry, 8, 4)); // of a Processor Local x2APIC
-    if kind == 9 && id < 255 && flags & 1 != 0 {
-        findings.add("madt-x2apic-below-255", offset.saturating_add(4), &[id]);
     }
     check_signal(offset, entry, findings);
 }
@@ -149,5 +160,32 @@ fn check_references(numbers: &Numbers, findings: &mut Findings) {
         if *list == OVERRIDES && !matches!(base, Some((base, _)) if base <= *number) {
             findings.add("madt-override-nowhere", *offset, &[*number]);
         }
+    }
+}
+
+/// Finds the lowest id under 255 of a local x2APIC.
+fn check_low(numbers: &Numbers, findings: &mut Findings) {
+    let count = numbers.place(LOW + 1, 0).saturating_sub(numbers.place(LOW, 0));
+    if let Some((id, offset)) = numbers.from(LOW, 0) {
+        findings.add("madt-x2apic-below-255", offset, &[id, count as u64]);
+    }
+}
+
+/// Finds that no processor of a MADT is enabled, if it has some.
+fn check_enabled(madt: &[u8], findings: &mut Findings) {
+    let (mut first, mut count) = (None, 0u64);
+    for (offset, entry) in Pieces::of(madt, 44, (1, 1)) {
+        for (kind, place) in &PROCESSORS {
+            if field(entry, 0, 1) == *kind {
+                if field(entry, *place, 4) & 1 != 0 {
+                    return;
+                }
+                first = first.or(Some(offset.saturating_add(*place)));
+                count = count.saturating_add(1);
+            }
+        }
+    }
+    if let Some(offset) = first {
+        findings.add("madt-no-processor", offset, &[count]);
     }
 }

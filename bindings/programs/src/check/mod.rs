@@ -13,6 +13,7 @@
 #![allow(clippy::style, clippy::complexity, clippy::perf, clippy::manual_unwrap_or_default)]
 
 mod affinities;
+mod aml;
 mod devices;
 mod facs;
 mod fadt;
@@ -38,7 +39,7 @@ pub use machine::Machine;
 use machine::table_of;
 
 /// The texts of the rules, subject by subject.
-fn subjects() -> [&'static str; 10] {
+fn subjects() -> [&'static str; 11] {
     [
         roots::RULES,
         headers::RULES,
@@ -49,6 +50,7 @@ fn subjects() -> [&'static str; 10] {
         devices::RULES,
         iommu::RULES,
         machines::RULES,
+        aml::RULES,
         fields::RULES,
     ]
 }
@@ -69,6 +71,9 @@ pub fn findings_of(machine: &Machine<'_>) -> Result<Judgement, AllocError> {
     }
     affinities::check_affinities(machine, &mut findings);
     devices::check_console(machine, &mut findings);
+    fadt::check_arm(machine, &mut findings);
+    machines::check_processors(machine, &mut findings);
+    aml::check_aml(machine, &mut findings);
     findings.in_order(machine.entries)
 }
 

@@ -98,10 +98,10 @@ fn check_revision(machine: &Machine<'_>, findings: &mut Findings) {
     }
 }
 
-/// Finds that the root table lists no FADT, or no MADT, if an RSDP leads to it and the input has all tables that it
-/// lists.
+/// Finds that the root table lists no FADT, or no MADT, if an RSDP leads to it or there are three other tables or more,
+/// and the input has all tables that it lists, as far as that can be told.
 fn check_listed(machine: &Machine<'_>, findings: &mut Findings) {
-    if machine.rsdp.is_empty() {
+    if machine.rsdp.is_empty() && machine.entries.len() < 4 {
         return;
     }
     let (mut has_fadt, mut has_madt) = (false, false);

@@ -185,14 +185,14 @@ fn check(lent: &[u8], signature: Signature, cut: AcpiError) -> Status {
 }
 
 /// What there is to say of a table, over all bytes that are shown of it, after what the checks say.
-fn looked_over(status: Status, bytes: &[u8]) -> Status {
+fn looked_over(alloc: Global, status: Status, bytes: &[u8]) -> Status {
     if !matches!(status, Status::Valid) {
         return status;
     }
     let over = bytes.len().saturating_sub(field(bytes, 4, 4) as usize);
     if over > 0 && !bytes.starts_with(b"RSD PTR ") {
         Status::Longer(over)
-    } else if is_malformed(bytes) {
+    } else if is_malformed(alloc, bytes) {
         Status::Malformed
     } else {
         status
@@ -200,7 +200,7 @@ fn looked_over(status: Status, bytes: &[u8]) -> Status {
 }
 
 /// The table in a file.
-fn entry_of_file(file: &TableFile) -> Entry<'_> {
+fn entry_of_file(alloc: Global, file: &TableFile) -> Entry<'_> {
     let lent = file.bytes.as_slice();
     let place = match file.address {
         Some(address) => Place::Address(address),
@@ -215,7 +215,7 @@ fn entry_of_file(file: &TableFile) -> Entry<'_> {
     } else {
         check(lent, signature, AcpiError::SdtInvalidLength(signature))
     };
-    Entry { place, sought: None, bytes: lent, status: looked_over(status, lent) }
+    Entry { place, sought: None, bytes: lent, status: looked_over(alloc, status, lent) }
 }
 
 /// The tables in files, in order.
@@ -224,7 +224,7 @@ fn entry_of_file(file: &TableFile) -> Entry<'_> {
 pub fn entries_of_files(alloc: Global, files: &[TableFile]) -> Result<Vec<Entry<'_>>, AllocError> {
     let mut entries = Vec::new(alloc);
     for file in files {
-        entries.push(entry_of_file(file))?;
+        entries.push(entry_of_file(alloc, file))?;
     }
     Ok(entries)
 }
@@ -249,7 +249,7 @@ pub fn bytes_from<'i>(image: &MemoryImage<'i>, address: u64) -> &'i [u8] {
 }
 
 /// The table at an address, checked under the signature that it should have, or under its own.
-pub fn entry_at<'i>(image: &MemoryImage<'i>, address: u64, sought: Option<Signature>) -> Entry<'i> {
+pub fn entry_at<'i>(alloc: Global, image: &MemoryImage<'i>, address: u64, sought: Option<Signature>) -> Entry<'i> {
     let lent = bytes_from(image, address);
     let own = own_signature(lent);
     let status = match sought {
@@ -258,13 +258,13 @@ pub fn entry_at<'i>(image: &MemoryImage<'i>, address: u64, sought: Option<Signat
         None => check_header(lent, own, AcpiError::MapFailed),
     };
     let bytes = cut_to_length(lent);
-    Entry { place: Place::Address(address), sought, bytes, status: looked_over(status, bytes) }
+    Entry { place: Place::Address(address), sought, bytes, status: looked_over(alloc, status, bytes) }
 }
 
 /// The table that a FADT leads to, or its refusal to say where.
-fn entry_led<'i>(image: &MemoryImage<'i>, address: AcpiResult<u64>, signature: Signature) -> Entry<'i> {
+fn entry_led<'i>(alloc: Global, image: &MemoryImage<'i>, address: AcpiResult<u64>, signature: Signature) -> Entry<'i> {
     match address {
-        Ok(address) => entry_at(image, address, Some(signature)),
+        Ok(address) => entry_at(alloc, image, address, Some(signature)),
         Err(refusal) => {
             Entry { place: Place::Nowhere, sought: Some(signature), bytes: &[], status: Status::Refused(refusal) }
         }
@@ -294,15 +294,15 @@ pub fn entries_of<'i>(
     image: &MemoryImage<'i>,
     tables: &AcpiTables<'_, MemoryImage<'_>>,
 ) -> Result<Vec<Entry<'i>>, AllocError> {
-    let mut entries = vec![in alloc; entry_at(image, tables.root_address(), None)]?;
+    let mut entries = vec![in alloc; entry_at(alloc, image, tables.root_address(), None)]?;
     for address in tables.addresses() {
-        entries.push(entry_at(image, address, None))?;
+        entries.push(entry_at(alloc, image, address, None))?;
     }
     for led in &led_by_fadt(tables) {
         let Some((address, signature)) = *led else {
             continue;
         };
-        entries.push(entry_led(image, address, signature))?;
+        entries.push(entry_led(alloc, image, address, signature))?;
     }
     Ok(entries)
 }

@@ -2,8 +2,10 @@
 //! Whether a walk over a table finds it malformed.
 
 use crate::input::entries::own_signature;
+use crate::rattle::alloc::Global;
+use crate::walk::aml::{Ends, Object};
 use crate::walk::fault::Fault;
-use crate::walk::walk::{Show, walk_table};
+use crate::walk::walk::{Show, ShowObjects, walk_with_objects};
 
 /// Whether a part of a table is malformed.
 #[derive(Clone, Copy)]
@@ -21,9 +23,17 @@ impl Show for Flaws {
     }
 }
 
-/// Whether a part of a table doesn't match its layout.
-pub(crate) fn is_malformed(table: &[u8]) -> bool {
+impl ShowObjects for Flaws {
+    fn object(&mut self, _object: &Object<'_>) {}
+
+    fn ends(&mut self, _offset: u64, why: Ends) {
+        self.are_some |= why.is_malformed();
+    }
+}
+
+/// Whether a part of a table doesn't match its layout, or its AML isn't understood for a fault of its own.
+pub(crate) fn is_malformed(alloc: Global, table: &[u8]) -> bool {
     let mut flaws = Flaws { are_some: false };
-    walk_table(own_signature(table), table, &mut flaws);
+    walk_with_objects(alloc, own_signature(table), table, &mut flaws);
     flaws.are_some
 }

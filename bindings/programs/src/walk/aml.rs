@@ -1,9 +1,9 @@
 // Made by scripts/erase of crates/acpi_dump_walk/src/aml.rt, where it is proved.
 //! The named objects of AML, in the order of the bytes (ACPI 6.4, section 20.2.5). AML is not run.
 
-mod resources;
+pub mod resources;
 mod units;
-mod value;
+pub mod value;
 
 use crate::rattle::Vec;
 use crate::rattle::alloc::{AllocError, Global};
@@ -60,6 +60,11 @@ impl From<AllocError> for Ends {
 }
 
 impl Ends {
+    /// Whether the table is malformed by it. It isn't by what is run when the table is loaded, and by what isn't known.
+    pub fn is_malformed(self) -> bool {
+        matches!(self, Ends::Aml(AmlError::PastEnd(_) | AmlError::InvalidLength(_) | AmlError::InvalidName(_)))
+    }
+
     /// Prints it.
     pub fn print(self, out: &mut Out) {
         let (words, at) = match self {

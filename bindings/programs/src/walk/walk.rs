@@ -76,9 +76,14 @@ pub trait ShowObjects: Show {
 /// The tables whose bytes after the header are AML (section 5.2.11).
 const AML_TABLES: [Signature; 3] = [Signature::DSDT, Signature::SSDT, Signature::PSDT];
 
+/// Whether tables of a signature have AML after the header.
+pub fn has_aml(signature: Signature) -> bool {
+    AML_TABLES.contains(&signature)
+}
+
 /// Shows a table by its layout, and in place of the bytes of AML the objects that it defines.
 pub fn walk_with_objects<S: ShowObjects>(alloc: Global, signature: Signature, table: &[u8], show: &mut S) {
-    if AML_TABLES.contains(&signature) && table.len() >= SdtHeader::MIN_LENGTH {
+    if has_aml(signature) && table.len() >= SdtHeader::MIN_LENGTH {
         walk_table(signature, &table[..SdtHeader::MIN_LENGTH], show);
         return show_objects(alloc, table, SdtHeader::MIN_LENGTH, show);
     }

@@ -121,7 +121,7 @@ fn tables_of_memory<'i>(output: Output<'_>, memory: &MemoryImage<'i>, log: &mut 
         tables.rsdp = rsdp.get(..36).unwrap_or(&[]);
         // Revision, RsdtAddress.
         let (revision, address) = (field(rsdp, 15, 1), field(rsdp, 16, 4));
-        let beside = entry_at(memory, address, Some(Signature::RSDT));
+        let beside = entry_at(output.alloc, memory, address, Some(Signature::RSDT));
         if revision != 0 && !beside.status.is_invalid() {
             tables.rsdt = beside.bytes;
         }

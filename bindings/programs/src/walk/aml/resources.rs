@@ -7,7 +7,7 @@ use crate::walk::language::{cut_at, factor_of, number_at};
 use crate::walk::out::Out;
 
 /// The end tag.
-const END: u8 = 0x78;
+pub const END: u8 = 0x78;
 
 /// Descriptors: the first byte, without the length in it if that is small, words, and after `@` the places of the
 /// numbers in these, each `OFFSET:LENGTH`.
@@ -60,7 +60,7 @@ pub(super) fn print_resources(bytes: &[u8], between: &str, out: &mut Out) {
 }
 
 /// What a descriptor is: its first byte, without the length in it if that is small.
-fn tag_of(first: u8) -> u8 {
+pub fn tag_of(first: u8) -> u8 {
     if first < 0x80 { first / 8 * 8 } else { first }
 }
 
@@ -76,13 +76,48 @@ fn descriptor_end(bytes: &[u8], at: usize) -> Option<usize> {
     if end <= bytes.len() { Some(end) } else { None }
 }
 
+/// Descriptors, one after the other: the offset of each, and its bytes. It ends before one that doesn't end in the bytes.
+pub struct Descriptors<'a> {
+    offset: usize,
+    rest: &'a [u8],
+}
+
+impl<'a> Descriptors<'a> {
+    /// The descriptors that bytes begin with.
+    pub fn of(bytes: &'a [u8]) -> Descriptors<'a> {
+        Descriptors { offset: 0, rest: bytes }
+    }
+}
+
+impl<'a> Iterator for Descriptors<'a> {
+    type Item = (usize, &'a [u8]);
+
+    fn next(&mut self) -> Option<(usize, &'a [u8])> {
+        if self.rest.is_empty() {
+            return None;
+        }
+        let end = descriptor_end(self.rest, 0)?;
+        let (descriptor, rest) = self.rest.split_at(end);
+        let offset = self.offset;
+        self.offset = offset.saturating_add(end);
+        self.rest = rest;
+        Some((offset, descriptor))
+    }
+}
+
+/// The lowest and the highest address of an address space, what the bridge adds to them, and how many there are.
+pub fn space_of(descriptor: &[u8]) -> [u64; 4] {
+    let tag = descriptor.first().copied().unwrap_or(0);
+    numbers_at(descriptor, name_of(tag as u64, SPACES))
+}
+
 /// Prints a descriptor.
 fn print_descriptor(tag: u8, descriptor: &[u8], out: &mut Out) {
     match tag {
         0x20 => print_bits("interrupts", number_at(descriptor, 1, 2), out),
         0x28 => print_bits("DMA channels", number_at(descriptor, 1, 1), out),
         0x89 => print_interrupts(descriptor, out),
-        0x87 | 0x88 | 0x8A | 0x8B => print_space(tag, descriptor, out),
+        0x87 | 0x88 | 0x8A | 0x8B => print_space(descriptor, out),
         _ => print_words(tag, descriptor, out),
     }
 }
@@ -115,8 +150,8 @@ fn numbers_at(descriptor: &[u8], places: &str) -> [u64; 4] {
 }
 
 /// Prints the addresses of an address space.
-fn print_space(tag: u8, descriptor: &[u8], out: &mut Out) {
-    let [low, high, added, count] = numbers_at(descriptor, name_of(tag as u64, SPACES));
+fn print_space(descriptor: &[u8], out: &mut Out) {
+    let [low, high, added, count] = space_of(descriptor);
     out.words("#", &[count]);
     match number_at(descriptor, 3, 1) {
         0 => out.text(" bytes of memory"),

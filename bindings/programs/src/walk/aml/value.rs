@@ -103,7 +103,7 @@ fn print_data(data: &[u8], are_ids: bool, depth: u32, out: &mut Out) {
 }
 
 /// The integer that is all of a constant.
-fn integer_in(data: &[u8]) -> Option<u64> {
+pub fn integer_in(data: &[u8]) -> Option<u64> {
     match data {
         [0x00] => Some(0),
         [0x01] => Some(1),
@@ -113,27 +113,40 @@ fn integer_in(data: &[u8]) -> Option<u64> {
     }
 }
 
-/// Prints an integer. An EISA id has three letters of five bits and four hexadecimal digits, the highest first (section
-/// 19.3.4).
+/// The letters of the EISA id that an integer is, each from 1 on. It has three letters of five bits and four hexadecimal
+/// digits, the highest first (section 19.3.4).
+fn eisa_letters_in(data: &[u8]) -> Option<(u8, u8, u8)> {
+    let [0x0C, high, next, ..] = data else {
+        return None;
+    };
+    let letters = (*high / 4, *high % 4 * 8 + *next / 32, *next % 32);
+    if matches!(letters, (1..=26, 1..=26, 1..=26)) { Some(letters) } else { None }
+}
+
+/// Whether an integer is an EISA id.
+pub fn is_eisa_id(data: &[u8]) -> bool {
+    eisa_letters_in(data).is_some()
+}
+
+/// Prints an integer, which may be an EISA id.
 fn print_integer(data: &[u8], number: u64, are_ids: bool, out: &mut Out) {
-    let [0x0C, high, next, digits @ ..] = data else {
+    let Some((first, second, third)) = eisa_letters_in(data) else {
         return out.words("#", &[number]);
     };
-    let letters = [*high / 4, *high % 4 * 8 + *next / 32, *next % 32];
-    if !are_ids || !matches!(letters, [1..=26, 1..=26, 1..=26]) {
+    if !are_ids {
         return out.words("#", &[number]);
     }
     out.text("EISA id ");
-    for letter in letters {
-        out.bytes(&[b'@' + letter]);
+    for letter in [first, second, third] {
+        out.bytes(&[b'@' + letter % 32]);
     }
-    for pair in digits {
+    for pair in data.get(3..).unwrap_or(&[]) {
         write!(out, "{pair:02X}");
     }
 }
 
 /// The size of a buffer, if it is constant, and the bytes that it begins with.
-fn buffer_in(data: &[u8]) -> Option<(Option<u64>, &[u8])> {
+pub fn buffer_in(data: &[u8]) -> Option<(Option<u64>, &[u8])> {
     let [0x11, ..] = data else {
         return None;
     };
@@ -177,25 +190,31 @@ fn print_elements(data: &[u8], are_ids: bool, depth: u32, between: &str, out: &m
     let Some((count, elements)) = elements_of(data) else {
         return out.text("..");
     };
-    let mut at = 0;
+    let mut rest = elements;
     for index in 0..count {
-        if at >= elements.len() {
+        if rest.is_empty() {
             return;
         }
         if index > 0 {
             out.text(between);
         }
-        let Ok(end) = parts_end(&[Part::Argument], elements, at) else {
+        let Some((element, others)) = next_element(rest) else {
             return out.text("..");
         };
-        print_data(&elements[at..end], are_ids, depth, out);
-        at = end;
+        print_data(element, are_ids, depth, out);
+        rest = others;
     }
+}
+
+/// The first of a package's elements, and those after it, if it ends in them.
+pub fn next_element(elements: &[u8]) -> Option<(&[u8], &[u8])> {
+    let end = parts_end(&[Part::Argument], elements, 0).ok()?;
+    Some((elements.get(..end)?, elements.get(end..)?))
 }
 
 /// How many elements a package has, and the bytes of those that are set; `None` of other constants, and of a count that
 /// isn't constant.
-fn elements_of(data: &[u8]) -> Option<(u64, &[u8])> {
+pub fn elements_of(data: &[u8]) -> Option<(u64, &[u8])> {
     let part = match data {
         [0x12, ..] => Part::Byte,
         [0x13, ..] => Part::Argument,
@@ -211,20 +230,27 @@ fn elements_of(data: &[u8]) -> Option<(u64, &[u8])> {
     Some((count, data.get(start..block.end)?))
 }
 
+/// The name that a constant is: whether it begins at the root, how many scopes up it begins, and its segments.
+pub fn name_in(data: &[u8]) -> Option<(bool, usize, &[u8])> {
+    let name = name_at(data, 0).ok()?;
+    if name.end != data.len() {
+        return None;
+    }
+    Some((data.first() == Some(&b'\\'), name.ups, data.get(name.first..)?))
+}
+
 /// Prints the name that a constant is, as it is written, or that it is no constant.
 fn print_reference(data: &[u8], out: &mut Out) {
-    match name_at(data, 0) {
-        Ok(name) if name.end == data.len() => {
-            if data.first() == Some(&b'\\') {
-                out.text("\\");
-            }
-            for _ in 0..name.ups {
-                out.text("^");
-            }
-            print_segments(data.get(name.first..).unwrap_or(&[]), out)
-        }
-        _ => out.text(".."),
+    let Some((is_rooted, ups, segments)) = name_in(data) else {
+        return out.text("..");
+    };
+    if is_rooted {
+        out.text("\\");
     }
+    for _ in 0..ups {
+        out.text("^");
+    }
+    print_segments(segments, out)
 }
 
 /// Prints the address space of an operation region, its length and its offset.

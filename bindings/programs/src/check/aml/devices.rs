@@ -1,0 +1,213 @@
+// Made by scripts/erase of crates/acpi_dump_check/src/aml/devices.rt, where it is proved.
+//! Devices, processors and events (ACPI 6.5, sections 5.2.12, 5.6.4.1 and 6.1.12).
+
+use super::names::{Named, Names, ROOT, key_of};
+use super::values::text_in;
+use crate::check::findings::Findings;
+use crate::check::machine::Machine;
+use crate::check::numbers::{Kept, Numbers};
+use crate::check::pieces::Pieces;
+use crate::walk::aml::value::{elements_of, integer_in, next_element};
+use crate::walk::fields::print_path;
+use zacpi::sdt::{Signature, field};
+
+/// An id: as an integer, and as a text.
+pub(super) type Id = (u64, &'static [u8]);
+
+/// Whether a constant is one of ids, or a package that has one.
+fn is_one(data: &[u8], ids: &[Id]) -> bool {
+    let (number, text) = (integer_in(data), text_in(data).unwrap_or(&[]));
+    ids.iter().any(|id| number == Some(id.0) || text == id.1)
+}
+
+/// Whether the device whose path has a key has one of ids.
+pub(super) fn has_id(names: &Names<'_>, device: u64, ids: &[Id]) -> bool {
+    if let Some(id) = names.find_in(device, b"_HID")
+        && is_one(id.data, ids)
+    {
+        return true;
+    }
+    let Some(id) = names.find_in(device, b"_CID") else {
+        return false;
+    };
+    let Some((_, elements)) = elements_of(id.data) else {
+        return is_one(id.data, ids);
+    };
+    let mut rest = elements;
+    for _ in 0..elements.len() {
+        let Some((element, others)) = next_element(rest) else {
+            return false;
+        };
+        if is_one(element, ids) {
+            return true;
+        }
+        rest = others;
+    }
+    false
+}
+
+/// The integer that a name in the object whose path has a key is set to.
+pub(super) fn integer_of(names: &Names<'_>, scope: u64, name: &[u8]) -> Option<u64> {
+    integer_in(names.find_in(scope, name)?.data)
+}
+
+/// The key of an id and a _UID: of an integer by its value, and else by its bytes.
+fn identity_of(id: &[u8], unique: &[u8]) -> u64 {
+    let mut key = ROOT;
+    for data in [id, unique] {
+        match integer_in(data) {
+            Some(number) => key = key_of(key_of(key, &[0]), &number.to_le_bytes()),
+            None => key = key_of(key_of(key, &[1]), data),
+        }
+    }
+    key
+}
+
+/// Finds devices that have the _HID and the _UID of another one before them. One that is never there doesn't count.
+pub(super) fn check_ids(names: &Names<'_>, findings: &mut Findings) {
+    let mut found = Numbers::new(findings.alloc);
+    for (number, it) in names.all.iter().enumerate() {
+        if it.kind == "Name"
+            && matches!(names.name(it), b"_UID")
+            && let Some(id) = names.find_in(it.scope, b"_HID")
+            && id.kind == "Name"
+            && !matches!(integer_of(names, it.scope, b"_STA"), Some(status) if status & 1 == 0)
+        {
+            found.push(0, identity_of(id.data, it.data), number);
+        }
+    }
+    findings.need(found.sort());
+    let mut before = None;
+    for (_, identity, number) in found.all.iter() {
+        let Some(it) = names.all.get(*number) else {
+            continue;
+        };
+        if let Some((same, other)) = before
+            && same == *identity
+        {
+            tell_unique(names, it, &other, findings);
+        }
+        before = Some((*identity, *it));
+    }
+}
+
+/// Finds a _UID that another device with the same _HID has.
+fn tell_unique(names: &Names<'_>, it: &Named<'_>, other: &Named<'_>, findings: &mut Findings) {
+    if it.key == other.key {
+        return;
+    }
+    findings.table = it.table;
+    let start = findings.text.length();
+    print_path(names.scope_path(other), &mut findings.text);
+    findings.text.text(" has the same _HID and _UID");
+    findings.end("aml-uid-twice", it.offset, start);
+}
+
+/// Whether the device whose path has a key is a processor (section 5.6.7).
+fn is_processor(names: &Names<'_>, device: u64) -> bool {
+    match names.find_in(device, b"_HID") {
+        Some(id) => matches!(text_in(id.data), Some(b"ACPI0007")),
+        None => false,
+    }
+}
+
+/// The list of the UIDs of the AML's processors, and the one of the MADT's that are enabled.
+const DEFINED: u64 = 0;
+
+const ENABLED: u64 = 1;
+
+/// The enabled processors of a MADT.
+const PROCESSORS: [Kept; 5] = [
+    (0, ENABLED, (2, 1), 4),
+    (9, ENABLED, (12, 4), 8),
+    (0xb, ENABLED, (8, 4), 12),
+    (0x11, ENABLED, (3, 4), 11),
+    (0x18, ENABLED, (16, 4), 4),
+];
+
+/// Adds the UIDs of the processors of the AML. Returns whether they are all.
+fn add_processors(names: &Names<'_>, numbers: &mut Numbers) -> bool {
+    for it in names.all.iter() {
+        if it.kind == "Processor" {
+            numbers.push(DEFINED, field(it.data, 0, 1), it.offset);
+        } else if it.kind == "Device" && is_processor(names, it.key) {
+            match integer_of(names, it.key, b"_UID") {
+                Some(unique) => numbers.push(DEFINED, unique, it.offset),
+                None => return false,
+            }
+        }
+    }
+    true
+}
+
+/// Finds the first enabled processor of the MADT that the AML hasn't, if it has processors.
+pub(super) fn check_processors(machine: &Machine<'_>, names: &Names<'_>, findings: &mut Findings) {
+    let Some((index, madt)) = machine.first(Signature::MADT) else {
+        return;
+    };
+    let mut numbers = Numbers::new(machine.alloc);
+    if !names.are_all || !machine.is_whole() || !add_processors(names, &mut numbers) {
+        return;
+    }
+    for (offset, entry) in Pieces::of(madt, 44, (1, 1)) {
+        numbers.add(&PROCESSORS, offset, entry);
+    }
+    findings.need(numbers.sort());
+    if numbers.from(DEFINED, 0).is_none() {
+        return;
+    }
+    let (mut first, mut count) = (None, 0u64);
+    for (list, unique, offset) in numbers.all.iter() {
+        if *list == ENABLED && !numbers.has(DEFINED, *unique) {
+            first = first.or(Some((*unique, *offset)));
+            count = count.saturating_add(1);
+        }
+    }
+    if let Some((unique, offset)) = first {
+        findings.table = index;
+        findings.add("aml-no-processor", offset, &[unique, count]);
+    }
+}
+
+/// The event that a method in \_GPE is for, by the last three letters of its name.
+fn event_of(name: &[u8]) -> Option<u64> {
+    match name {
+        [b'_', b'L' | b'E', digits @ ..] => u64::from_str_radix(str::from_utf8(digits).ok()?, 16).ok(),
+        _ => None,
+    }
+}
+
+/// Whether a FADT of fixed hardware has a general purpose event: half of a block's bytes have a bit for each.
+fn has_event(fadt: &[u8], event: u64) -> bool {
+    let base = field(fadt, 94, 1); // GPE1_BASE
+    let first = (field(fadt, 92, 1) / 2).saturating_mul(8); // GPE0_BLK_LEN
+    let second = (field(fadt, 93, 1) / 2).saturating_mul(8); // GPE1_BLK_LEN
+    event < first || base <= event && event < base.saturating_add(second)
+}
+
+/// Judges the methods of general purpose events.
+pub(super) fn check_events(machine: &Machine<'_>, names: &Names<'_>, findings: &mut Findings) {
+    let scope = key_of(ROOT, b"_GPE");
+    let fadt = machine.first(Signature::FADT).map(|(_, fadt)| fadt);
+    for it in names.all.iter() {
+        let name = names.name(it);
+        let Some(event) = event_of(name) else {
+            continue;
+        };
+        if it.scope != scope || it.kind != "Method" {
+            continue;
+        }
+        findings.table = it.table;
+        if let Some(fadt) = fadt
+            && field(fadt, 112, 4) & 1 << 20 == 0 // HW_REDUCED_ACPI
+            && !has_event(fadt, event)
+        {
+            findings.add("aml-gpe-nowhere", it.offset, &[event]);
+        }
+        if let [_, b'L', high, low] = name
+            && names.find_in(scope, &[b'_', b'E', *high, *low]).is_some()
+        {
+            findings.add("aml-gpe-twice", it.offset, &[event]);
+        }
+    }
+}
