@@ -138,8 +138,8 @@ fn check_register(fadt: &[u8], offset: usize, findings: &mut Findings) {
     }
 }
 
-/// Judges the first FADT beside the first MADT, if that has a processor with a GIC. Such a machine has reduced hardware,
-/// and starts its processors by PSCI or by the mailboxes at their Parked Addresses.
+/// Judges the first FADT beside the first MADT, if that has a processor with a GIC. Such a machine has reduced
+/// hardware, and starts its processors by PSCI or by the mailboxes at their Parked Addresses.
 pub(crate) fn check_arm(machine: &Machine<'_>, findings: &mut Findings) {
     let (Some((index, fadt)), Some((_, madt))) = (machine.first(Signature::FADT), machine.first(Signature::MADT))
     else {

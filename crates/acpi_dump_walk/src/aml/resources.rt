@@ -79,7 +79,7 @@ fn descriptor_end(bytes: &[u8], at: usize) -> Option<usize>
     if end <= bytes.len() { Some(end) } else { None }
 }
 
-/// Descriptors, one after the other: the offset of each, and its bytes. It ends before one that doesn't end in the bytes.
+/// Descriptors, one after the other: the offset of each, and its bytes. It ends before one that goes past the bytes.
 #[derive(Drop)]
 pub struct Descriptors<'a> {
     offset: usize,

@@ -113,8 +113,8 @@ pub fn integer_in(data: &[u8]) -> Option<u64> {
     }
 }
 
-/// The letters of the EISA id that an integer is, each from 1 on. It has three letters of five bits and four hexadecimal
-/// digits, the highest first (section 19.3.4).
+/// The letters of the EISA id that an integer is, each from 1 on. It has three letters of five bits and four
+/// hexadecimal digits, the highest first (section 19.3.4).
 fn eisa_letters_in(data: &[u8]) -> Option<(u8, u8, u8)> {
     let [0x0C, high, next, ..] = data else {
         return None;
