@@ -48,7 +48,7 @@ fn check_compatible(it: &Named<'_>, findings: &mut Findings) {
 /// judged if it has the length of an id.
 fn check_id(at: usize, data: &[u8], is_hid: bool, findings: &mut Findings) {
     if let Some(number) = integer_in(data) {
-        let [a, b, c, d] = (number as u32).to_le_bytes();
+        let [a, b, c, d, _, _, _, _] = number.to_le_bytes();
         if number >> 32 != 0 || !is_eisa_id(&[0x0C, a, b, c, d]) {
             findings.add("aml-eisa-id", at, &[number]);
         }
