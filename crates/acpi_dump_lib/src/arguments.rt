@@ -4,7 +4,7 @@ ghost use Rattle.acpi_dump_lib.specs.Asked.{AreAlike, ChoosesNone, IsAsked, aske
 ghost use Rattle.clap.specs.Matches.{first_value, found_of};
 
 use crate::options::{Choice, Contents, refuse, refuse_option};
-use crate::words::{
+use crate::values::{
     Color, Format, Order, parse_color, parse_format, parse_order, parse_signature, parse_start,
 };
 use acpi::sdt::Signature;

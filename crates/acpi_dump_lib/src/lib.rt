@@ -15,5 +15,5 @@ mod paint;
 pub mod parser;
 pub mod run;
 mod summary;
+mod values;
 mod views;
-mod words;

@@ -9,10 +9,10 @@ use crate::arguments::{Request, View, request_of};
 use crate::options::refuse_option;
 use crate::paint::Paint;
 use crate::parser::Parser;
+use crate::values::Color;
 use crate::views::{
     Output, has_no_start, print_compared, print_input, print_rules, save_input, save_page,
 };
-use crate::words::Color;
 use acpi_dump_input::errors::{Log, Stop, tell};
 use acpi_dump_input::gather::gather;
 use acpi_dump_input::sources::{Sources, reason_of};

@@ -5,7 +5,7 @@ use crate::arguments::ArgMatches;
 use crate::cli::parse_address;
 use crate::cli::root::{Root, parse_root};
 use crate::dump::options::{Choice, Contents, refuse, refuse_option};
-use crate::dump::words::{Color, Format, Order, parse_color, parse_format, parse_order, parse_signature, parse_start};
+use crate::dump::values::{Color, Format, Order, parse_color, parse_format, parse_order, parse_signature, parse_start};
 use crate::input::errors::{Log, Stop};
 use crate::input::judgement::Severity;
 use crate::input::kind::{Kind, parse_kind};

@@ -6,7 +6,7 @@ use super::sarif::print_sarif;
 use super::{Output, strict_status};
 use crate::arguments::View;
 use crate::document::Document;
-use crate::words::{Format, Order};
+use crate::values::{Format, Order};
 use acpi_dump_check::findings_of;
 use acpi_dump_check::rules::rules;
 use acpi_dump_input::entries::{Entry, Place, own_signature, print_name};

@@ -9,7 +9,7 @@ use crate::check::findings_of;
 use crate::check::rules::rules;
 use crate::dump::arguments::View;
 use crate::dump::document::Document;
-use crate::dump::words::{Format, Order};
+use crate::dump::values::{Format, Order};
 use crate::input::entries::{Entry, Place, own_signature, print_name};
 use crate::input::errors::{Log, Stop};
 use crate::input::gather::Input;

@@ -1,4 +1,4 @@
-// Made by scripts/erase of crates/acpi_dump_lib/src/words.rt, where it is proved.
+// Made by scripts/erase of crates/acpi_dump_lib/src/values.rt, where it is proved.
 //! What the words of options name.
 
 use crate::cli::root::{Root, parse_root};
