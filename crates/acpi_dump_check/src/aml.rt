@@ -65,19 +65,25 @@ pub(crate) fn check_aml(machine: &Machine<'_>, findings: &mut Findings) {
     bridges::check_windows(names, findings);
 }
 
-/// The objects of all tables with AML: those of a DSDT first, as it is loaded first.
+/// The objects of all tables with AML: those of a DSDT first, as it is loaded first, and of a table that is listed
+/// twice once.
 fn names_of<'a>(machine: &Machine<'a>, findings: &mut Findings) -> Names<'a> {
     let mut names = Names::new(machine.alloc);
-    let mut places = Numbers::new(machine.alloc);
+    let places = &mut Numbers::new(machine.alloc);
+    for (number, entry) in machine.entries.iter().enumerate() {
+        if has_aml(own_signature(entry.bytes)) {
+            places.push(0, entry.place.address().unwrap_or(0), number);
+        }
+    }
+    findings.need(places.sort());
     for is_first in [true, false] {
         for (number, entry) in machine.entries.iter().enumerate() {
             let signature = own_signature(entry.bytes);
             let address = entry.place.address().unwrap_or(0);
             if has_aml(signature)
                 && (signature == Signature::DSDT) == is_first
-                && (address == 0 || !is_known(&places, address))
+                && (address == 0 || places.from(0, address) == Some((address, number)))
             {
-                places.push(0, address, number);
                 add_table(machine, number, entry, &mut names, findings);
             }
         }
@@ -107,11 +113,6 @@ fn add_table<'a>(
         why.print(&mut findings.text);
         findings.end("table-malformed", offset as usize, start);
     }
-}
-
-/// Whether an address is among those of the tables that came before.
-fn is_known(places: &Numbers, address: u64) -> bool {
-    places.all.iter().any(|(_, known, _)| *known == address)
 }
 
 /// Finds objects that are defined with a name that another one before them has, but not those that are in such an
