@@ -5,7 +5,7 @@
 #                           through a register
 #   make check              calls of it by programs of examples/c and tests/c; elsewhere RUN=qemu-arm LDFLAGS=-static
 #   make install            the headers, zacpi.c, zacpi-subset, both archives, what leads pkg-config and CMake to them,
-#                           examples
+#                           examples, manual pages of calls
 #   make acpi_dump          out/acpi_dump, acpi_view and acpi_pack, the programs, by cargo, for TARGET if one is named
 #   make regenerate         out/zacpi.c, of the Rust package, by rustc and LLVM (scripts/regenerate)
 #   make install-programs   these, or the programs in $(PROGRAMS), with their manual pages and completions
@@ -73,7 +73,7 @@ check: $(OUT)/libzacpi.a
 # What a user includes, compiles, links and looks for. The folder can be moved as a whole.
 install: $(OUT)/libzacpi.a $(OUT)/libzacpi-kernel.a
 	mkdir -p $(DESTDIR)$(PREFIX)/include $(DESTDIR)$(PREFIX)/bin $(DESTDIR)$(LIBDIR)/pkgconfig \
-	    $(DESTDIR)$(LIBDIR)/cmake/zacpi $(DOC)/examples
+	    $(DESTDIR)$(LIBDIR)/cmake/zacpi $(DOC)/examples $(SHARE)/man/man3
 	$(INSTALL) include/*.h dist/zacpi.c $(DESTDIR)$(PREFIX)/include
 	install -m 755 scripts/zacpi-subset $(DESTDIR)$(PREFIX)/bin
 	$(INSTALL) $(OUT)/libzacpi.a $(OUT)/libzacpi-kernel.a $(DESTDIR)$(LIBDIR)
@@ -84,6 +84,7 @@ install: $(OUT)/libzacpi.a $(OUT)/libzacpi-kernel.a
 	    scripts/zacpi-config-version.cmake.in >$(DESTDIR)$(LIBDIR)/cmake/zacpi/zacpi-config-version.cmake
 	$(INSTALL) LICENSE dist/THIRD-PARTY docs/C.md $(DOC)
 	$(INSTALL) examples/c/*.[ch] $(DOC)/examples
+	$(INSTALL) docs/man3/*.3 $(SHARE)/man/man3
 # Of these in $(PROGRAMS) the ones that are there. Where that is $(OUT), they are made first.
 install-programs: $(filter $(OUT)/acpi_dump,$(PROGRAMS)/acpi_dump)
 	mkdir -p $(DESTDIR)$(PREFIX)/bin $(SHARE)/man/man1 $(SHARE)/bash-completion/completions \
@@ -100,8 +101,9 @@ uninstall:
 	rm -rf $(DESTDIR)$(LIBDIR)/cmake/zacpi $(DOC)
 	rm -f $(addprefix $(DESTDIR)$(LIBDIR)/,libzacpi.a libzacpi-kernel.a pkgconfig/zacpi.pc pkgconfig/zacpi-kernel.pc) \
 	    $(addprefix $(DESTDIR)$(PREFIX)/,$(wildcard include/*.h) include/zacpi.c bin/zacpi-subset $(NAMES:%=bin/%)) \
-	    $(NAMES:%=$(SHARE)/man/man1/%.1) $(SHARE)/bash-completion/completions/acpi_dump \
-	    $(SHARE)/zsh/site-functions/_acpi_dump $(SHARE)/fish/vendor_completions.d/acpi_dump.fish
+	    $(NAMES:%=$(SHARE)/man/man1/%.1) $(patsubst docs/%,$(SHARE)/man/%,$(wildcard docs/man3/*)) \
+	    $(SHARE)/bash-completion/completions/acpi_dump $(SHARE)/zsh/site-functions/_acpi_dump \
+	    $(SHARE)/fish/vendor_completions.d/acpi_dump.fish
 clean:
 	rm -rf $(OUT)
 .PHONY: all kernel acpi_dump regenerate check install install-programs uninstall clean

@@ -1,0 +1,138 @@
+# SPDX-License-Identifier: MIT
+"""What the headers for C declare for callers, with their comments, in the order of the headers: for the scripts that
+make documents of them (scripts/manuals, scripts/site). A comment is a list of blocks: a paragraph, or lines that are
+laid out as they are, each with its first blank."""
+import re
+from pathlib import Path
+
+ROOT = Path(__file__).resolve().parent.parent
+HEADERS = ['zacpi.h', 'zacpi_write.h', 'zacpi_map.h', 'zacpi_source.h', 'zacpi_tables.h']
+# Of the header of raw structs, whose structs are shown as they are there, what a caller calls.
+RAW_CALLS = {'zacpi_wake_processor', 'zacpi_raw_hest_source_length'}
+# The inlines that C.md's questions don't have, and that callers call.
+HELPERS = {'zacpi_status_name', 'zacpi_signature_of', 'zacpi_raw_hest_source_length'}
+MACROS = {'ZACPI_VERSION', 'ZACPI_VERSION_NUMBER', 'ZACPI_ABI', 'ZACPI_SIGNATURE'}
+TOKEN = re.compile(r'(?s)(?P<comment>/\*.*?\*/)|(?P<record>(?:struct|enum) (?P<tag>zacpi_\w+) \{.*?\};)|'
+                   r'(?P<alias>typedef (?:[^;{]*?)(?P<new>\w+);)|(?P<macro>#define (?P<defined>\w+)(?:\\\n|[^\n])*)|'
+                   r'(?P<call>(?:ZACPI_STATUS|static inline [\w *]*?)[ *]?(?P<name>zacpi_\w+)\([^;{]*?\)(?=;| \{))|'
+                   r'(?P<other>[^\n]+)|(?P<end>\n+)')
+
+
+def blocks(comment):
+    """The blocks of a comment's text."""
+    lines = [re.sub(r'^ ?\* ?', '', line) for line in re.sub(r'^/\*+ ?|\s*\*/$', '', comment).split('\n')]
+    found, is_laid_out = [], False
+    for line in lines:
+        laid_out = bool(re.match(r'  +\S', line)) or (is_laid_out and not line.strip())
+        if not line.strip() and not laid_out:
+            found.append('')
+        elif laid_out != is_laid_out or not found or found[-1] == '':
+            found.append(' ' + line if laid_out else line.strip())
+        else:
+            found[-1] += '\n ' + line if laid_out else ' ' + line.strip()
+        is_laid_out = laid_out
+    return [block.rstrip() for block in found if block.strip()]
+
+
+class Item:
+    """A struct, an enum, a type, a macro or a call: its kind, name, header, line, declaration, comment and section."""
+    def __init__(self, kind, name, header, line, text, comment, section, notes):
+        self.kind, self.name, self.header, self.line, self.text = kind, name, header, line, text
+        self.comment, self.section, self.notes = comment, section, notes
+
+    def prototype(self):
+        """How a call is declared, without what makes it an inline."""
+        text = re.sub(r'^ZACPI_STATUS', 'zacpi_status', re.sub(r'^static inline ', '', self.text))
+        return ' '.join(text.split())
+
+    def words(self):
+        """The comment as one text."""
+        return ' '.join(' '.join(block.split()) for block in self.comment)
+
+
+def is_public(header, name, questions):
+    return name in questions or name in HELPERS or header == 'zacpi_write.h'
+
+
+def asked():
+    """The calls that C.md's questions have, in their order, each with the group of its first question."""
+    found, group = {}, ''
+    for question, calls in rows():
+        group = re.match(r'\*\*(.*?)\.\*\*', question)[1] if question.startswith('**') else group
+        for call in re.findall(r'`(zacpi_\w+\w)`', calls):
+            found.setdefault(call, group)
+    return found
+
+
+def rows():
+    """The rows of C.md's questions: the question, and its calls."""
+    table = (ROOT / 'docs/C.md').read_text().split('## From a question to its call')[1].split('\n## ')[0]
+    return re.findall(r'(?m)^\| (?!question)(\S.*?) \| (.*) \|$', table)
+
+
+def of_header(name):
+    """The items of a header. What another comment or a blank line comes after stands by itself: a note of what follows,
+    as the one after a section's head."""
+    text = (ROOT / 'include' / name).read_text()
+    found, comment, section, notes, questions = [], None, '', [], asked()
+    kept = ''  # the comment of the call before, if nothing is between
+    for token in TOKEN.finditer(text):
+        kind = token.lastgroup if token.lastgroup in ('comment', 'other', 'end') else next(
+            each for each in ('record', 'alias', 'macro', 'call') if token[each])
+        line = text.count('\n', 0, token.start()) + 1
+        if kind == 'end':
+            if comment and len(token[0]) > 1:
+                notes, comment = notes + [comment], None
+            if len(token[0]) > 1:
+                kept = ''
+        elif kind == 'comment':
+            head = re.match(r'/\* (.*?) -+ \*/$', token[0])
+            if head:
+                section, notes, comment = head[1], [], None
+            elif text[token.start() - 1] == '\n':
+                notes += [comment] if comment else []
+                comment, kept = token[0], ''
+            elif found and found[-1].line <= line and kind == 'comment' and found[-1].kind in ('alias', 'macro'):
+                found[-1].comment = found[-1].comment or blocks(token[0])
+        elif kind == 'other':
+            if token[0] not in (';', ' '):
+                comment = None
+        else:
+            item = token['tag'] or token['new'] or token['defined'] or token['name']
+            wanted = kind == 'record' or kind == 'call' and is_public(name, item, questions) or item in MACROS or \
+                item == 'zacpi_status'
+            if name == 'zacpi_tables.h':
+                wanted = item in RAW_CALLS
+            if name in ('zacpi_map.h', 'zacpi_source.h') and kind == 'record':
+                wanted = item in ('zacpi_mapper',)
+            words = comment or (kept if kind == 'call' else '')
+            text_of, kept = token[0], words
+            if kind == 'macro':
+                text_of = text_of.split('/*')[0].rstrip()
+                words = words or ''.join(re.findall(r'/\*.*\*/', token[0]))
+            if wanted:
+                found.append(Item(kind, item, name, line, text_of, blocks(words) if words else [], section, notes))
+                notes = []
+            comment = None
+    return found
+
+
+def every():
+    return [item for header in HEADERS for item in of_header(header)]
+
+
+def first_comment(name='zacpi.h'):
+    """What a header's first comment, after its licence, has."""
+    text = (ROOT / 'include' / name).read_text()
+    return blocks(re.findall(r'(?s)/\*.*?\*/', text)[1])
+
+
+def statuses():
+    """What each error means, in the order of its numbers: name, number and comment."""
+    body = re.search(r'(?s)enum zacpi_status_code \{(.*?)\n\};', (ROOT / 'include/zacpi.h').read_text())[1]
+    found = {}
+    for before, name, number, after in re.findall(
+            r'(?s)(?:/\*((?:(?!\*/).)*)\*/\s*)?(ZACPI_\w+) = (\d+),?[ \t]*(?:/\*(.*?)\*/)?', body):
+        words = ' '.join(re.sub(r'(?m)^ *\* ?', ' ', after or (before if name.endswith('INVALID_BUS') else '')).split())
+        found[name] = int(number), words
+    return found
