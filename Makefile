@@ -8,6 +8,7 @@
 #                           examples, manual pages of calls
 #   make acpi_dump          out/acpi_dump, acpi_view and acpi_pack, the programs, by cargo, for TARGET if one is named
 #   make regenerate         out/zacpi.c, of the Rust package, by rustc and LLVM (scripts/regenerate)
+#   make docs               out/site, the documents, calls by question, Rust items and manual pages, with a search
 #   make install-programs   these, or the programs in $(PROGRAMS), with their manual pages and completions
 #   make uninstall          removes what both have installed
 #
@@ -60,6 +61,10 @@ $(OUT)/acpi_dump: $(wildcard bindings/*/Cargo.toml) $(shell find bindings/rust/s
 
 regenerate:
 	scripts/regenerate $(OUT)/zacpi.c
+
+.PHONY: docs
+docs:
+	scripts/site $(OUT)/site
 
 LINKED = $(CC) -std=c99 $(CFLAGS) -Iinclude $(1) $(OUT)/libzacpi.a $(LDFLAGS) -o $(OUT)/$(2)
 check: $(OUT)/libzacpi.a

@@ -86,6 +86,24 @@ def arguments(item):
         (re.match(r'(.*?[ *])(\w+)$', each.strip()) for each in inside.split(','))]
 
 
+def declaration(item, width=78):
+    """The lines of a call's declaration: pairs of a text and an argument's name after it, or none at a line's end."""
+    begin = item.prototype().split(item.name + '(')[0] + item.name + '('
+    lines, length = [[(begin, '')]], len(begin)
+    passed = arguments(item)
+    for place, (kind, name) in enumerate(passed):
+        after = ');' if place + 1 == len(passed) else ', '
+        text = kind + ' ' * (kind[-1] != '*')
+        if length + len(text + name + after) > width:
+            lines.append([('    ', '')])
+            length = 4
+        lines[-1] += [(text, name), (after, '')]
+        length += len(text + name + after)
+    if not passed:
+        lines[-1].append(('void);', ''))
+    return lines
+
+
 def records_of(item):
     """The structs that a call writes or is passed, but for those that nearly every call has."""
     common = {'zacpi_source', 'zacpi_signature', 'zacpi_table_ids'}
@@ -151,4 +169,6 @@ def usual_call(item):
             passed.append(name if is_list else f'&{name}')
         else:
             passed.append('64' if name == 'capacity' else name)
-    return '\n'.join(declared + [f'zacpi_status status = {item.name}({", ".join(passed)});'])
+    kind = item.prototype().split(f'{item.name}(')[0].strip()
+    result = 'status' if kind == 'zacpi_status' else 'result'
+    return '\n'.join(declared + [f'{kind} {result} = {item.name}({", ".join(passed)});'])

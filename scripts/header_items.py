@@ -3,6 +3,7 @@
 make documents of them (scripts/manuals, scripts/site). A comment is a list of blocks: a paragraph, or lines that are
 laid out as they are, each with its first blank."""
 import re
+from functools import cache
 from pathlib import Path
 
 ROOT = Path(__file__).resolve().parent.parent
@@ -54,20 +55,26 @@ def is_public(header, name, questions):
     return name in questions or name in HELPERS or header == 'zacpi_write.h'
 
 
-def asked():
-    """The calls that C.md's questions have, in their order, each with the group of its first question."""
-    found, group = {}, ''
-    for question, calls in rows():
-        group = re.match(r'\*\*(.*?)\.\*\*', question)[1] if question.startswith('**') else group
-        for call in re.findall(r'`(zacpi_\w+\w)`', calls):
-            found.setdefault(call, group)
+@cache
+def groups():
+    """The groups of C.md's questions, each with its rows: a question, and its calls."""
+    table = (ROOT / 'docs/C.md').read_text().split('## From a question to its call')[1].split('\n## ')[0]
+    found, title = {}, ''
+    for question, calls in re.findall(r'(?m)^\| (?!question)(\S.*?) \| (.*) \|$', table):
+        begin = re.match(r'\*\*(.*?)\.\*\* ', question)
+        title = begin[1] if begin else title
+        found.setdefault(title, []).append((question[begin.end():] if begin else question, calls))
     return found
 
 
-def rows():
-    """The rows of C.md's questions: the question, and its calls."""
-    table = (ROOT / 'docs/C.md').read_text().split('## From a question to its call')[1].split('\n## ')[0]
-    return re.findall(r'(?m)^\| (?!question)(\S.*?) \| (.*) \|$', table)
+@cache
+def asked():
+    """The calls that the questions have, in their order, each with the group of its first question."""
+    found = {}
+    for title, rows in groups().items():
+        for call in re.findall(r'`(zacpi_\w+\w)`', ' '.join(calls for _, calls in rows)):
+            found.setdefault(call, title)
+    return found
 
 
 def of_header(name):
@@ -75,14 +82,15 @@ def of_header(name):
     as the one after a section's head."""
     text = (ROOT / 'include' / name).read_text()
     found, comment, section, notes, questions = [], None, '', [], asked()
-    kept = ''  # the comment of the call before, if nothing is between
+    kept, line, last = '', 1, 0  # the comment of the call before, if nothing is between
     for token in TOKEN.finditer(text):
         kind = token.lastgroup if token.lastgroup in ('comment', 'other', 'end') else next(
             each for each in ('record', 'alias', 'macro', 'call') if token[each])
-        line = text.count('\n', 0, token.start()) + 1
+        line += text.count('\n', last, token.start())
+        last = token.start()
         if kind == 'end':
             if comment and len(token[0]) > 1:
-                notes, comment = notes + [comment], None
+                notes, comment = notes + [comment] * ('SPDX-' not in comment), None
             if len(token[0]) > 1:
                 kept = ''
         elif kind == 'comment':
@@ -127,12 +135,41 @@ def first_comment(name='zacpi.h'):
     return blocks(re.findall(r'(?s)/\*.*?\*/', text)[1])
 
 
+def text_of(comment):
+    """A comment's text, as one line."""
+    return ' '.join(re.sub(r'(?m)^ *\* ?|^/\*+|\*/$', ' ', comment).split())
+
+
+def members(item):
+    """What a record or an enum consists of: what its own comment after the bracket has, and of each field or constant
+    its declaration, its comment, and a comment that is a head of it and those after it."""
+    body = re.search(r'(?s)\{(.*)\}', item.text)[1]
+    own = re.match(r'(?s)[ \t]*(/\*.*?\*/)', body)
+    body = body[own.end():] if own else body
+    end, found, text, before, is_new_line = ';' if item.text.startswith('struct') else ',', [], '', '', True
+    for token in re.findall(rf'(?s)/\*.*?\*/|[{end}\n]|[^{end}\n/]+', body + end):
+        if token.startswith('/*'):
+            if text.strip():
+                found_words = text_of(token)
+                text, before = text + ' ', (before, found_words)
+            elif is_new_line:
+                before = text_of(token)
+            else:
+                name, words, _ = found[-1]
+                found[-1] = name, text_of(token), words
+        elif token == end and text.strip():
+            head, words = before if isinstance(before, tuple) else ('', before)
+            found.append((' '.join(text.split()), words, head))
+            text, before, is_new_line = '', '', False
+        elif token == '\n':
+            is_new_line, text = is_new_line or not text.strip(), text + ' '
+        else:
+            text += token
+    return text_of(own[1]) if own else '', found
+
+
+@cache
 def statuses():
     """What each error means, in the order of its numbers: name, number and comment."""
-    body = re.search(r'(?s)enum zacpi_status_code \{(.*?)\n\};', (ROOT / 'include/zacpi.h').read_text())[1]
-    found = {}
-    for before, name, number, after in re.findall(
-            r'(?s)(?:/\*((?:(?!\*/).)*)\*/\s*)?(ZACPI_\w+) = (\d+),?[ \t]*(?:/\*(.*?)\*/)?', body):
-        words = ' '.join(re.sub(r'(?m)^ *\* ?', ' ', after or (before if name.endswith('INVALID_BUS') else '')).split())
-        found[name] = int(number), words
-    return found
+    found = members(next(item for item in of_header('zacpi.h') if item.name == 'zacpi_status_code'))[1]
+    return {declaration.split()[0]: (int(declaration.split()[2]), words) for declaration, words, _ in found}
