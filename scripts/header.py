@@ -2,9 +2,10 @@
 """What include/zacpi.h and its part zacpi_write.h declare, for the scripts that make the rest of it: the number of the
 ABI, each struct with its fields, and each call with its arguments, in the header's order."""
 import re
-from pathlib import Path
 
-ROOT = Path(__file__).resolve().parent.parent
+import header_items
+
+ROOT = header_items.ROOT
 LENGTH = r'\w*(?:length|capacity)\b' # what the number of a list's items is named; another number is none
 text = ''.join((ROOT / 'include' / name).read_text() for name in ('zacpi.h', 'zacpi_write.h'))
 text = re.sub(r'/\*.*?\*/', ' ', text, flags=re.S)
@@ -49,35 +50,24 @@ def layout(kind):
     return -(-at // most) * most, most, last
 
 
-# a struct's declaration and the comment after it, on the same line
-FIELD = r'((?:/\*.*?\*/|[^;/])+);[ \t]*(/\*.*?\*/)?'
+def items():
+    """The structs and the calls of the library, with their comments."""
+    return [item for name in ('zacpi.h', 'zacpi_write.h') for item in header_items.of_header(name)
+            if item.text.startswith(('struct ', 'ZACPI_STATUS '))]
 
 
 def comments():
     """What the comment of each field is that has one, by struct and field."""
     found = {}
-    for name in ('zacpi.h', 'zacpi_write.h'):
-        for struct, body in re.findall(r'(?s)\nstruct (zacpi_\w+) \{(.*?)\n\};', (ROOT / 'include' / name).read_text()):
-            found[struct] = {}
-            for declaration, comment in re.findall('(?s)' + FIELD, re.sub(r'(?s)^\s*/\*.*?\*/', '', body, count=1)):
-                fields = split(re.sub(r'(?s)/\*.*?\*/|\bZACPI_SLOT ', '', declaration).strip())
-                words = ' '.join(re.sub(r'(?m)^ *\* ?|/\*|\*/', ' ', comment).split())
-                found[struct] |= {re.sub(r'\[.*', '', field): words for _, field in fields if words and len(fields) == 1}
+    for item in items():
+        if item.kind == 'record':
+            members = [(split(field.removeprefix('ZACPI_SLOT ')), words)
+                       for field, words, _ in header_items.members(item)[1]]
+            found[item.name] = {re.sub(r'\[.*', '', fields[0][1]): words
+                                for fields, words in members if words and len(fields) == 1}
     return found
-
-
-# the head of a section, a comment that stands alone, a struct, and a call
-DECLARED = (r'(?m)^/\* (.*?) -+ \*/$|(?s:^(/\* (?:(?!\*/).)*\*/)$)|^struct (zacpi_\w+) \{|'
-            r'^ZACPI_STATUS (zacpi_\w+)\(')
 
 
 def declared():
     """Each struct and call of the header: its section there, and of a call what its comment begins with."""
-    found, section, comment = {}, '', ''
-    for name in ('zacpi.h', 'zacpi_write.h'):
-        for head, before, struct, call in re.findall(DECLARED, (ROOT / 'include' / name).read_text()):
-            section, comment = head or section, before or comment
-            if struct or call:
-                words = ' '.join(re.sub(r'(?m)^ \* ?|/\*|\*/', ' ', comment).split())
-                found[struct or call] = section, re.match(r'(.*?[.:])(?= [A-Z]|$|$)', words)[1] if call else ''
-    return found
+    return {item.name: (item.section, item.brief() if item.kind == 'call' else '') for item in items()}

@@ -50,9 +50,14 @@ class Item:
         """The comment as one text."""
         return ' '.join(' '.join(block.split()) for block in self.comment)
 
+    def brief(self):
+        """What the comment begins with: its first sentence, or what comes before a list."""
+        return re.match(r'(.*?[.:])(?= [A-Z]|$)|.*', self.words())[0]
 
-def is_public(header, name, questions):
-    return name in questions or name in HELPERS or header == 'zacpi_write.h'
+
+def is_public(header, name, text, questions):
+    return name in questions or name in HELPERS or header == 'zacpi_write.h' or text.startswith('ZACPI_STATUS') and \
+        header == 'zacpi.h'
 
 
 @cache
@@ -107,7 +112,7 @@ def of_header(name):
                 comment = None
         else:
             item = token['tag'] or token['new'] or token['defined'] or token['name']
-            wanted = kind == 'record' or kind == 'call' and is_public(name, item, questions) or item in MACROS or \
+            wanted = kind == 'record' or kind == 'call' and is_public(name, item, token[0], questions) or item in MACROS or \
                 item == 'zacpi_status'
             if name == 'zacpi_tables.h':
                 wanted = item in RAW_CALLS

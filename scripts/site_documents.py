@@ -76,12 +76,18 @@ def of_manual(site, path):
         place = f'{found[1]}.{found[2]}'
         there = (ROOT / 'docs' / place).exists() or (ROOT / 'docs/man3' / place).exists()
         return f'<a href="{place}.html">{found[0]}</a>' if there else found[0]
+
+    def heading(found):
+        return f'<h2 id="{found[1]}">{" ".join(found[2].split())}'
     body = re.sub(r'<b>(\w+)</b>\((\d)\)', link, body)
-    body = re.sub(r'(</?)h2\b', r'\1h3', re.sub(r'(</?)h1\b', r'\1h2', body))
+    body = re.sub(r'(</?)h1\b', r'\1h2', re.sub(r'(</?)h2\b', r'\1h3', body))
+    body = re.sub(r'(?s)<h2 class="Sh" id="([^"]*)"><a [^>]*>(.*?)</a>', heading, body)
+    # mandoc breaks the lines that begin with a blank, also where each line is one.
+    body = re.sub(r'(?s)<pre>.*?</pre>', lambda found: re.sub(r'\n<br/>(?=\n)', '', found[0]), body)
+    body = re.sub(r'(?s)<p class="Pp">\s*(?:<br/>\s*)?</p>', '', body[body.index('<div class="manual-text">'):])
     name = f'{path.stem}({path.suffix[1:]})'
     site.find(name, 'manual', url, plain(body))
-    site.write(url, f'{name} · zacpi', f'<h1>{name}</h1>\n{body}',
-               re.findall(r'<h2 class="Sh" id="([^"]*)"><a [^>]*>(.*?)</a>', body))
+    site.write(url, f'{name} · zacpi', f'<h1>{name}</h1>\n{body[:body.index("<table class=")]}', headings(body))
 
 
 def manuals(site):

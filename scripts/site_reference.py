@@ -35,16 +35,19 @@ def place_of(group):
 def wide(rows, heads=(), kind=''):
     """A table of rows, which are HTML."""
     first = ''.join(f'<th>{head}</th>' for head in heads)
-    return (f'<div class="wide"><table{kind and f" class={kind}"}>{first and f"<tr>{first}</tr>"}{"".join(rows)}'
-            '</table></div>\n') if rows else ''
+    lines = (f'<tr>{first}</tr>\n' if first else '') + '\n'.join(rows)
+    return f'<div class="wide"><table class="{kind}">{lines}</table></div>\n' if rows else ''
 
 
 def brief(item):
-    """The first sentence of a comment."""
-    words = item.words()
-    if item.kind == 'record' and not words:
-        words = header_items.members(item)[0]
-    return re.match(r'(.*?[.:])(?= [A-Z]|$)|.*', words)[0]
+    """The first sentence of a comment, or of the one in a record."""
+    is_bare = item.kind == 'record' and not item.comment
+    return re.sub(':$', '.', header_items.members(item)[0] if is_bare else item.brief())
+
+
+def searched(item):
+    """A comment as the search has it."""
+    return item.words().replace('`', '')
 
 
 class Reference:
@@ -66,19 +69,26 @@ class Reference:
             self.site.names[value.findtext('name')] = f'reference/{name}.html#{value.findtext("name")}'
 
     def html_of(self, element, url):
-        """What Doxygen has of a comment, as HTML."""
+        """What Doxygen has of a comment, as HTML: paragraphs, with blocks between them."""
         if element.tag == 'verbatim':
-            return f'</p><pre>{self.site.linked(element.text.rstrip(), url)}</pre><p>'
-        inside = self.site.linked(element.text or '', url) + ''.join(
-            self.html_of(each, url) + self.site.linked(each.tail or '', url) for each in element)
-        if element.tag == 'simplesect' and element.get('kind') == 'remark':
-            return f'</p><div class="note">{inside}</div><p>'
+            return f'<pre>{self.site.linked(element.text.rstrip(), url)}</pre>\n'
         mark = {'computeroutput': 'code', 'para': 'p'}.get(element.tag)
-        return f'<{mark}>{inside}</{mark}>' if mark else inside
+        found, inside = '', self.site.linked(element.text or '', url)
+        for each in element:
+            if mark == 'p' and each.tag in ('verbatim', 'simplesect'):
+                found += f'<p>{inside.strip()}</p>\n' if inside.strip() else ''
+                found, inside = found + self.html_of(each, url), ''
+            else:
+                inside += self.html_of(each, url)
+            inside += self.site.linked(each.tail or '', url)
+        if element.tag == 'simplesect' and element.get('kind') == 'remark':
+            return f'<div class="note">{inside.strip()}</div>\n'
+        inside = inside.strip() if mark == 'p' else inside
+        return found + (f'<{mark}>{inside}</{mark}>' if mark and inside else inside) + '\n' * (mark == 'p')
 
     def said(self, element, url):
         """The paragraphs of an element's comment; none for one that has only a blank."""
-        body = re.sub(r'<p>\s*</p>', '', self.html_of(element.find('detaileddescription'), url)).strip()
+        body = self.html_of(element.find('detaileddescription'), url).strip()
         return body if plain(body) else ''
 
     def code(self, words, url):
@@ -103,7 +113,7 @@ class Reference:
     def field(self, field, url, is_own, is_enum):
         """The row of a field or a constant, after the row of its head if it has one."""
         name, words = field.findtext('name'), self.said(field, url)
-        head = re.match(r'(?s)(?:<p>)?(?:</p>)?<div class="note">(.*?)</div>', words)
+        head = re.match(r'(?s)<div class="note">(.*?)</div>', words)
         row = f'<tr class="head"><td colspan="2">{head[1]}</td></tr>' if head else ''
         words = words[head.end():] if head else words
         if is_enum:
@@ -129,7 +139,7 @@ class Reference:
         rows = [f'<tr><td><code>{self.site.linked(name, url)}</code></td><td>{number}</td>'
                 f'<td>{self.code(means, url)}</td></tr>' for name, number, means in call_pages.errors_of(item)]
         return rows and ('<h2 id="errors">Errors, in order</h2>\n' + (words and f'<p>{words}') +
-                         wide(rows, ('error', 'number', 'means'))) or ''
+                         wide(rows, ('error', 'number', 'means'), 'errors')) or ''
 
     def example(self, item, url):
         """A caller of a call, or how it is called, and where test cases have it."""
@@ -166,7 +176,7 @@ class Reference:
         records = ''.join(self.fields(each, url) for each in call_pages.records_of(item) if each in self.members)
         body += '</p>' * (does.count('<p>') > does.count('</p>')) + self.errors(item, url, errors)
         body += records and f'<h2 id="records">Records</h2>\n{records}'
-        self.page(name, 'call', url, body + self.example(item, url) + self.also(item, url), item.words())
+        self.page(name, 'call', url, body + self.example(item, url) + self.also(item, url), searched(item))
 
     def record(self, name):
         """The page of a struct, an enum, a type or a macro, with what has it."""
@@ -179,7 +189,7 @@ class Reference:
         if having:
             body += f'<h2 id="used">What has it</h2>\n<p>{self.list_of(having, url)}</p>\n'
         words = plain(self.fields(name, url)) if item.kind == 'record' else ''
-        self.page(name, kind, url, body, f'{item.words()} {words}')
+        self.page(name, kind, url, body, f'{searched(item)} {words}')
         for value in element.iterfind('enumvalue'):
             called = value.findtext('name')
             self.site.find(called, 'constant', f'{url}#{called}', plain(self.said(value, url)))
