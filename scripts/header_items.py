@@ -10,9 +10,9 @@ ROOT = Path(__file__).resolve().parent.parent
 HEADERS = ['zacpi.h', 'zacpi_write.h', 'zacpi_map.h', 'zacpi_source.h', 'zacpi_tables.h']
 # Of the header of raw structs, whose structs are shown as they are there, what a caller calls.
 RAW_CALLS = {'zacpi_wake_processor', 'zacpi_raw_hest_source_length'}
-# The inlines that C.md's questions don't have, and that callers call.
-HELPERS = {'zacpi_status_name', 'zacpi_signature_of', 'zacpi_raw_hest_source_length'}
-MACROS = {'ZACPI_VERSION', 'ZACPI_VERSION_NUMBER', 'ZACPI_ABI', 'ZACPI_SIGNATURE'}
+# The inlines that C.md's questions don't have, and callers call; the macros and types that they use.
+HELPERS = {'zacpi_status_name', 'zacpi_signature_of'}
+NAMES = {'ZACPI_VERSION', 'ZACPI_VERSION_NUMBER', 'ZACPI_ABI', 'ZACPI_SIGNATURE', 'zacpi_status'}
 TOKEN = re.compile(r'(?s)(?P<comment>/\*.*?\*/)|(?P<record>(?:struct|enum) (?P<tag>zacpi_\w+) \{.*?\};)|'
                    r'(?P<alias>typedef (?:[^;{]*?)(?P<new>\w+);)|(?P<macro>#define (?P<defined>\w+)(?:\\\n|[^\n])*)|'
                    r'(?P<call>(?:ZACPI_STATUS|static inline [\w *]*?)[ *]?(?P<name>zacpi_\w+)\([^;{]*?\)(?=;| \{))|'
@@ -55,9 +55,16 @@ class Item:
         return re.match(r'(.*?[.:])(?= [A-Z]|$)|.*', self.words())[0]
 
 
-def is_public(header, name, text, questions):
-    return name in questions or name in HELPERS or header == 'zacpi_write.h' or text.startswith('ZACPI_STATUS') and \
-        header == 'zacpi.h'
+def is_wanted(header, kind, name, text):
+    """Whether callers use what is declared."""
+    if header == 'zacpi_tables.h':
+        return name in RAW_CALLS
+    if kind == 'record':
+        return header not in ('zacpi_map.h', 'zacpi_source.h') or name == 'zacpi_mapper'
+    if kind != 'call':
+        return name in NAMES
+    is_export = header == 'zacpi.h' and text.startswith('ZACPI_STATUS')
+    return is_export or header == 'zacpi_write.h' or name in HELPERS or name in asked()
 
 
 @cache
@@ -82,52 +89,58 @@ def asked():
     return found
 
 
-def of_header(name):
-    """The items of a header. What another comment or a blank line comes after stands by itself: a note of what follows,
-    as the one after a section's head."""
-    text = (ROOT / 'include' / name).read_text()
-    found, comment, section, notes, questions = [], None, '', [], asked()
-    kept, line, last = '', 1, 0  # the comment of the call before, if nothing is between
-    for token in TOKEN.finditer(text):
-        kind = token.lastgroup if token.lastgroup in ('comment', 'other', 'end') else next(
-            each for each in ('record', 'alias', 'macro', 'call') if token[each])
-        line += text.count('\n', last, token.start())
-        last = token.start()
-        if kind == 'end':
-            if comment and len(token[0]) > 1:
-                notes, comment = notes + [comment] * ('SPDX-' not in comment), None
-            if len(token[0]) > 1:
-                kept = ''
-        elif kind == 'comment':
-            head = re.match(r'/\* (.*?) -+ \*/$', token[0])
-            if head:
-                section, notes, comment = head[1], [], None
-            elif text[token.start() - 1] == '\n':
-                notes += [comment] if comment else []
-                comment, kept = token[0], ''
-            elif found and found[-1].line <= line and kind == 'comment' and found[-1].kind in ('alias', 'macro'):
-                found[-1].comment = found[-1].comment or blocks(token[0])
-        elif kind == 'other':
-            if token[0] not in (';', ' '):
-                comment = None
-        else:
-            item = token['tag'] or token['new'] or token['defined'] or token['name']
-            wanted = kind == 'record' or kind == 'call' and is_public(name, item, token[0], questions) or item in MACROS or \
-                item == 'zacpi_status'
-            if name == 'zacpi_tables.h':
-                wanted = item in RAW_CALLS
-            if name in ('zacpi_map.h', 'zacpi_source.h') and kind == 'record':
-                wanted = item in ('zacpi_mapper',)
-            words = comment or (kept if kind == 'call' else '')
-            text_of, kept = token[0], words
-            if kind == 'macro':
-                text_of = text_of.split('/*')[0].rstrip()
-                words = words or ''.join(re.findall(r'/\*.*\*/', token[0]))
-            if wanted:
-                found.append(Item(kind, item, name, line, text_of, blocks(words) if words else [], section, notes))
-                notes = []
-            comment = None
-    return found
+class Reader:
+    """Reads a header. A comment belongs to what comes right after it. What another comment or a blank line comes after
+    stands by itself: a note of what follows in its section."""
+    def __init__(self, header):
+        self.header, self.found = header, []
+        self.section, self.notes, self.comment = '', [], None
+        self.before = ''  # the comment of the call right before, which several share
+        self.text, self.line, last = (ROOT / 'include' / header).read_text(), 1, 0
+        for token in TOKEN.finditer(self.text):
+            self.line += self.text.count('\n', last, token.start())
+            last = token.start()
+            if token['end']:
+                self.end(token[0])
+            elif token['comment']:
+                self.remark(token)
+            elif token['other']:
+                self.comment = self.comment if token[0] in (';', ' ') else None
+            else:
+                self.item(token)
+
+    def end(self, lines):
+        if len(lines) > 1:
+            self.notes += [self.comment] if self.comment and 'SPDX-' not in self.comment else []
+            self.comment, self.before = None, ''
+
+    def remark(self, token):
+        head = re.match(r'/\* (.*?) -+ \*/$', token[0])
+        if head:
+            self.section, self.notes, self.comment = head[1], [], None
+        elif self.text[token.start() - 1] == '\n':
+            self.notes += [self.comment] if self.comment else []
+            self.comment, self.before = token[0], ''
+        elif self.found and self.found[-1].kind == 'alias' and self.found[-1].line == self.line:
+            self.found[-1].comment = blocks(token[0])
+
+    def item(self, token):
+        kind = next(each for each in ('record', 'alias', 'macro', 'call') if token[each])
+        name, text = token['tag'] or token['new'] or token['defined'] or token['name'], token[0]
+        words = self.comment or (self.before if kind == 'call' else '')
+        self.comment, self.before = None, words
+        if kind == 'macro':
+            text, mark, after = text.partition('/*')
+            words, text = words or mark + after, text.rstrip()
+        if is_wanted(self.header, kind, name, text):
+            self.found.append(Item(kind, name, self.header, self.line, text, blocks(words) if words else [],
+                                   self.section, self.notes))
+            self.notes = []
+
+
+@cache
+def of_header(header):
+    return Reader(header).found
 
 
 def every():

@@ -30,6 +30,8 @@ MORE = ('All of it', [('What it is', 'index.html'), ('Compared', 'compared.html'
                       ('Decisions', 'decisions.html'), ('Speed', 'speed.html'), ('Map of the code', 'map.html'),
                       ('Glossary', 'glossary.html'), ('Changes', 'changelog.html'), ('Security', 'security.html'),
                       ('Contributing', 'contributing.html')])
+LISTED = {page for _, pages in DOORS + [MORE] for _, page in pages}
+MORE[1].extend((Path(name).stem.capitalize(), page) for name, page in DOCUMENTS.items() if page not in LISTED)
 # What else is behind the first door.
 OF_C = re.compile(r'reference/|manuals/zacpi')
 NAME = re.compile(r'\b(?:zacpi_\w+|ZACPI_\w+)\b')
