@@ -10,8 +10,8 @@ ROOT = Path(__file__).resolve().parent.parent
 HEADERS = ['zacpi.h', 'zacpi_write.h', 'zacpi_map.h', 'zacpi_source.h', 'zacpi_tables.h']
 # Of the header of raw structs, whose structs are shown as they are there, what a caller calls.
 RAW_CALLS = {'zacpi_wake_processor', 'zacpi_raw_hest_source_length'}
-# The inlines that C.md's questions don't have, and callers call; the macros and types that they use.
-HELPERS = {'zacpi_status_name', 'zacpi_signature_of'}
+# The inline that C.md's questions don't have, and callers call; the macros and types that they use.
+HELPERS = {'zacpi_status_name'}
 NAMES = {'ZACPI_VERSION', 'ZACPI_VERSION_NUMBER', 'ZACPI_ABI', 'ZACPI_SIGNATURE', 'zacpi_status'}
 TOKEN = re.compile(r'(?s)(?P<comment>/\*.*?\*/)|(?P<record>(?:struct|enum) (?P<tag>zacpi_\w+) \{.*?\};)|'
                    r'(?P<alias>typedef (?:[^;{]*?)(?P<new>\w+);)|(?P<macro>#define (?P<defined>\w+)(?:\\\n|[^\n])*)|'
