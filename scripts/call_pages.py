@@ -157,18 +157,24 @@ def cases_of(name):
 
 
 def usual_call(item):
-    """How a call is written, by its prototype alone: a declaration for each of its outputs, and the call."""
+    """How a call is written, by its prototype alone: a declaration for each of its outputs, the call, and what it has
+    returned."""
     declared, passed = [], []
+    places = '4096' if re.search(r'uint8_t \*out\b', item.text) else '64'
     for kind, name in arguments(item):
         plain = re.sub(r'^const |\s*\*$', '', kind).strip()
         if name == 'signature':
             passed.append('NULL')
         elif name in ('out', 'length', 'count', 'malformed') and kind.endswith('*') and not kind.startswith('const'):
             is_list = name == 'out' and 'size_t capacity' in item.prototype()
-            declared.append(f'{plain} {name}{"[64]" if is_list else ""};')
+            declared.append(f'{plain} {name}{f"[{places}]" if is_list else ""};')
             passed.append(name if is_list else f'&{name}')
         else:
-            passed.append('64' if name == 'capacity' else name)
+            passed.append(places if name == 'capacity' else name)
     kind = item.prototype().split(f'{item.name}(')[0].strip()
-    result = 'status' if kind == 'zacpi_status' else 'result'
-    return '\n'.join(declared + [f'{kind} {result} = {item.name}({", ".join(passed)});'])
+    if kind != 'zacpi_status':
+        return '\n'.join(declared + [f'{kind} result = {item.name}({", ".join(passed)});'])
+    after = ['if (status) return status;']
+    if 'size_t count;' in declared:
+        after += [f'for (size_t i = 0; i < count && i < {places}; i++) {{', '    /* out[i] */', '}']
+    return '\n'.join(declared + [f'zacpi_status status = {item.name}({", ".join(passed)});'] + after)
