@@ -17,14 +17,19 @@ static void print_plan(const struct printer *p, const char *name, zacpi_status s
     for (uint32_t i = 0; i < plan->count; i++) print_step(p, name, plan->steps + i);
 }
 
-void enable_acpi(const struct zacpi_source *source, const struct printer *p, plan_map *map) {
+zacpi_status print_plans(const struct zacpi_source *source, const struct printer *p, struct zacpi_plan *enable) {
     struct zacpi_signature named = {{0}};
     struct zacpi_plan plan;
     zacpi_status status = zacpi_get_power_off_plan(source, &plan, &named);
     print_plan(p, "off", status, &plan, &named);
     status = zacpi_get_reset_plan(source, &plan, &named);
     print_plan(p, "reset", status, &plan, &named);
-    status = zacpi_get_enable_plan(source, &plan, &named);
-    print_plan(p, "enable", status, &plan, &named);
-    if (!status) say(p, "enabled by steps "), say_number(p, run_plan(&plan, map)), say(p, "\n");
+    status = zacpi_get_enable_plan(source, enable, &named);
+    print_plan(p, "enable", status, enable, &named);
+    return status;
+}
+
+void enable_acpi(const struct zacpi_source *source, const struct printer *p, plan_map *map) {
+    struct zacpi_plan plan;
+    if (!print_plans(source, p, &plan)) say(p, "enabled by steps "), say_number(p, run_plan(&plan, map)), say(p, "\n");
 }

@@ -7,7 +7,9 @@
 extern "C" {
 #endif
 
-/* Prints each plan's steps, or why there is none, and runs that which enables ACPI. */
+/* Prints each plan's steps, or why there is none, and returns the plan that enables ACPI, or its error. */
+zacpi_status print_plans(const struct zacpi_source *source, const struct printer *p, struct zacpi_plan *enable);
+/* The same, and runs that plan. */
 void enable_acpi(const struct zacpi_source *source, const struct printer *p, plan_map *map);
 
 #ifdef __cplusplus

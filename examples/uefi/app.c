@@ -19,18 +19,6 @@ static void named_range(const char *name, uint64_t address, uint64_t length) {
     say(&serial, name), say_address(&serial, address), say(&serial, " "), say_address(&serial, length);
 }
 
-/* The RSDP: the table under EFI_ACPI_20_TABLE_GUID (section 4.6); 0 if there is none. */
-static uint64_t rsdp_of(const struct system_table *system) {
-    static const struct guid acpi = {0x8868e871, 0xe4f1, 0x11d3, {0xbc, 0x22, 0, 0x80, 0xc7, 0x3c, 0x88, 0x81}};
-    for (uint64_t i = 0; i < system->tables_count; i++) {
-        const uint8_t *a = (const uint8_t *)&system->tables[i].guid, *b = (const uint8_t *)&acpi;
-        size_t same = 0;
-        while (same < sizeof acpi && a[same] == b[same]) same++;
-        if (same == sizeof acpi) return (uint64_t)system->tables[i].table;
-    }
-    return 0;
-}
-
 /* The regions: the tables are in the two types of memory that are ACPI's (section 2.3). A map's ranges touch, and a
  * table has to be in one, so they are joined. Memory is mapped at its own addresses; returns 0 if there is no map. */
 static size_t make_regions(const struct system_table *system) {
