@@ -7,6 +7,8 @@
 #   make install            the headers, zacpi.c, zacpi-subset, both archives, what leads pkg-config and CMake to them,
 #                           examples, manual pages of calls
 #   make acpi_dump          out/acpi_dump, acpi_view and acpi_pack, the programs, by cargo, for TARGET if one is named
+#   make stick              out/stick.img, which shows and saves a machine's tables without an operating system, by
+#                           clang, lld, mtools and python3 (docs/TESTING.md)
 #   make regenerate         out/zacpi.c, of the Rust package, by rustc and LLVM (scripts/regenerate)
 #   make docs               out/site, the documents, calls by question, Rust items and manual pages, with a search
 #   make install-programs   these, or the programs in $(PROGRAMS), with their manual pages and completions
@@ -58,6 +60,11 @@ $(OUT)/acpi_dump: $(wildcard bindings/*/Cargo.toml) $(shell find bindings/rust/s
 	$(CARGO) build --release --manifest-path bindings/programs/Cargo.toml --target-dir $(OUT)/cargo \
 	    $(if $(TARGET),--target $(TARGET))
 	cp $(NAMES:%=$(OUT)/cargo/$(if $(TARGET),$(TARGET)/)release/%) $(OUT)
+
+stick:
+	@mkdir -p $(OUT)/stick
+	examples/stick/build $(OUT)/stick
+	examples/stick/image $(OUT)/stick $(OUT)/stick.img
 
 regenerate:
 	scripts/regenerate $(OUT)/zacpi.c
@@ -111,4 +118,4 @@ uninstall:
 	    $(SHARE)/fish/vendor_completions.d/acpi_dump.fish
 clean:
 	rm -rf $(OUT)
-.PHONY: all kernel acpi_dump regenerate check install install-programs uninstall clean
+.PHONY: all kernel acpi_dump stick regenerate check install install-programs uninstall clean

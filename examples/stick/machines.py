@@ -1,0 +1,288 @@
+#!/usr/bin/env python3
+# SPDX-License-Identifier: MIT
+"""machines.py IMAGE ACPI_DUMP [PART]: boots copies of the stick's image in QEMU by each firmware, or on the machines
+whose names have PART, turns the pages, and compares: the tables on the screen, and the machine, with what acpi_dump
+prints of the text that is on the stick then; the bytes in the text with the machine's memory; the plans with those
+worked out of these bytes; and what else is on the stick with the image. One machine has wrong tables, whose faults have
+to be on the screen. Each has to power itself off. The last line is `N passed, M failed`."""
+import os
+import re
+import select
+import shutil
+import struct
+import subprocess
+import sys
+import tempfile
+import time
+
+sys.path.append(os.path.join(os.path.dirname(os.path.abspath(__file__)), '..'))
+from plans import plans
+from qemu import Ending, Memory, save
+
+IMAGE, DUMP, PART = (sys.argv[1:] + ['', ''])[:3]
+FILES = tempfile.TemporaryDirectory()
+PROMPT = rb'-- a key shows the next page[^\n]*--'
+# What the firmware sends to a terminal beside text.
+CONTROLS = re.compile(rb'\x1b(\[[0-9;=?]*[A-Za-z]|c)|\r')
+# The names of facts that the screen has as acpi_dump --summary has them.
+FACTS = re.compile(r'(profile|processors?|interrupts|I/O APIC|PM timer|HPET|PCI segment|memory domain|redistributors|ITS)'
+                   r'\b')
+WIDTH = 21  # the column of what a name means
+PARTITION = 1 << 20
+SIZE = 4 << 20  # of the file that a BIOS writes
+FLASH = 'if=pflash,format=raw,%s=on,file=%s'
+NUMA = ['-object', 'memory-backend-ram,id=m0,size=128M', '-object', 'memory-backend-ram,id=m1,size=128M',
+        '-numa', 'node,nodeid=0,memdev=m0,cpus=0-1', '-numa', 'node,nodeid=1,memdev=m1,cpus=2-3']
+
+
+def bios(machine):
+    return ['qemu-system-x86_64', '-machine', machine + ',graphics=off', '-vga', 'std', '-m', '256M', '-smp', '4']
+
+
+def uefi(program, code, variables):
+    flash = [FLASH % ('readonly', code), '-drive', FLASH % ('snapshot', variables)]
+    return [program, '-m', '512M', '-smp', '4', '-drive'] + flash
+
+
+def table(signature, body, oem_id=b'ZACPI '):
+    """A file with a table for -acpitable; QEMU makes its sum right."""
+    header = signature + struct.pack('<IBB6s8sI4sI', 36 + len(body), 1, 0, oem_id, b'STICK   ', 1, b'TEST', 1)
+    path = os.path.join(FILES.name, signature.decode())
+    with open(path, 'wb') as file:
+        file.write(header + body)
+    return ['-acpitable', 'file=' + path]
+
+
+def wrong_tables():
+    """An SRAT with domain 7 for 16 MiB from 4 GiB on (type 1, 40 bytes, enabled; section 5.2.16.2) and then an entry of
+    Length 0; a table whose OEMID isn't UTF-8; and an MSDM."""
+    memory = struct.pack('<BBIHQQIIQ', 1, 40, 7, 0, 1 << 32, 16 << 20, 0, 1, 0)
+    return (table(b'SRAT', struct.pack('<IQ', 1, 0) + memory + b'\1\0') + table(b'OEM1', b'body', b'\xff\xfeOEM ') +
+            table(b'MSDM', struct.pack('<5I', 1, 0, 1, 0, 29) + b'AAAAA-BBBBB-CCCCC-DDDDD-EEEEE'))
+
+
+OVMF = uefi('qemu-system-x86_64', '/usr/share/OVMF/OVMF_CODE_4M.fd', '/usr/share/OVMF/OVMF_VARS_4M.fd')
+AAVMF = uefi('qemu-system-aarch64', '/usr/share/AAVMF/AAVMF_CODE.fd', '/usr/share/AAVMF/AAVMF_VARS.fd')
+# Of each the command, the file that it writes, whether the first page has to go by itself, and facts and faults that
+# the screen has to have. The BIOS machines have one stick: the second one's text is shorter.
+MACHINES = {
+    'q35, SeaBIOS': (bios('q35') + NUMA, 'BIOS.TXT', True,
+                     ['memory domain 1      128 MiB from 0x8000000 on', 'The library finds no fault.']),
+    'pc with wrong tables, SeaBIOS': (bios('pc') + wrong_tables(), 'BIOS.TXT', False,
+                                      ['memory domain 7      16 MiB from 0x100000000 on',
+                                       'OEM1 at OEM1+0x0: SdtInvalidOemId',
+                                       'entry of type 1 of SRAT at SRAT+0x58: InvalidSrat InvalidEntryLength',
+                                       'faults that the library finds: 2']),
+    'q35, OVMF': (OVMF + ['-machine', 'q35'], 'UEFI.TXT', False, ['The library finds no fault.']),
+    'virt, AAVMF': (AAVMF + ['-machine', 'virt,gic-version=3', '-cpu', 'cortex-a57'], 'UEFI.TXT', False,
+                    ['timer EL1 virtual    interrupt 27, level, active high', 'power                by PSCI, HVC',
+                     'The library finds no fault.']),
+}
+
+
+class Guest:
+    """A machine that boots from a stick. Each page ends with a prompt."""
+
+    def __init__(self, command, stick, folder):
+        self.monitor, qmp = os.path.join(folder, 'monitor'), os.path.join(folder, 'qmp')
+        self.errors = open(os.path.join(folder, 'errors'), 'w+')
+        self.process = subprocess.Popen(
+            command + ['-accel', 'tcg', '-nodefaults', '-no-user-config', '-display', 'none', '-no-reboot',
+                       '-serial', 'stdio', '-monitor', 'unix:%s,server=on,wait=off' % self.monitor,
+                       '-qmp', 'unix:%s,server=on' % qmp, '-drive', 'if=none,id=stick,format=raw,file=' + stick,
+                       '-device', 'qemu-xhci', '-device', 'usb-storage,drive=stick,removable=on'],
+            stdin=subprocess.PIPE, stdout=subprocess.PIPE, stderr=self.errors)
+        self.said, self.ending = b'', Ending(qmp)
+
+    def page(self):
+        """The lines of the next page, or of all that comes before the end."""
+        last = time.time() + 300
+        while not re.search(PROMPT, self.said):
+            more = b''
+            if select.select([self.process.stdout], [], [], max(0, last - time.time()))[0]:
+                more = os.read(self.process.stdout.fileno(), 65536)
+            if not more:
+                break
+            self.said = CONTROLS.sub(b'', self.said + more)
+        page, *rest = re.split(PROMPT, self.said, maxsplit=1)
+        self.said = b''.join(rest)
+        return joined(page.decode('latin1').splitlines()), bool(rest)
+
+    def press(self):
+        self.process.stdin.write(b' ')
+        self.process.stdin.flush()
+
+    def ended(self):
+        return self.process.wait(60), self.ending.how()
+
+    def stop(self):
+        if self.process.poll() is None:
+            self.process.kill()
+            self.process.wait()
+        self.errors.close()
+
+
+def joined(lines):
+    """Lines without blanks at their ends, those that were too long for a screen whole again."""
+    answer = []
+    for line in (line.rstrip() for line in lines):
+        if answer and line.startswith(' ' * WIDTH):
+            answer[-1] += ' ' + line.strip()
+        elif line:
+            answer.append(line)
+    return answer
+
+
+def listed(lines):
+    """The lines of tables on the screen: signature, address, length and status."""
+    found = [re.fullmatch(r'(\S{4}) ([0-9a-f]{16}) ([0-9a-f]{8}) (\w+)(, not saved.*)?', line) for line in lines]
+    return [m.groups() for m in found if m]
+
+
+def boot(command, goes_on, stick, folder):
+    """The lines of all pages, the memory of the tables that they list, and how the machine ended."""
+    guest = Guest(command, stick, folder)
+    try:
+        lines, files, has_prompt = [], [], True
+        while has_prompt:
+            more, has_prompt = guest.page()
+            lines += more
+            if listed(more):
+                files += save(guest.monitor, [(int(a, 16), int(n, 16)) for _, a, n, _, _ in listed(more)], folder)
+            if has_prompt and not goes_on:
+                guest.press()
+            goes_on = False
+        return lines, Memory(files), guest.ended()
+    finally:
+        guest.stop()
+
+
+def mtool(name, image, *words):
+    command = [name, '-i', '%s@@%d' % (image, PARTITION), *words]
+    return subprocess.run(command, check=True, stdout=subprocess.PIPE).stdout
+
+
+def tables_in(text):
+    """The tables of acpidump's text, by address: a heading, and rows of an offset and up to 16 bytes."""
+    tables, address = {}, None
+    for line in text.splitlines():
+        heading, row = re.fullmatch(r'(\S+) @ 0x([0-9A-F]{16})', line), re.match(r' *([0-9A-F]{4,8}): (.{47})', line)
+        if heading:
+            address = int(heading[2], 16)
+            tables[address] = b''
+        elif row and not line.startswith('#'):
+            assert int(row[1], 16) == len(tables[address])
+            tables[address] += bytes.fromhex(row[2])
+    return tables
+
+
+def dumped(*words):
+    read = subprocess.run([DUMP, *words], stdout=subprocess.PIPE, stderr=subprocess.STDOUT, text=True)
+    return read.stdout.splitlines()
+
+
+def as_listed(lines, read):
+    """What differs between the tables on the screen and the lines that acpi_dump prints of the text: of an RSDP the
+    address alone, a part that is malformed isn't the list's, and an error may have more words."""
+    ours = [entry for entry in listed(lines) if not entry[4]]
+    wrong = [] if len(ours) == len(read) - 1 else ['%d tables are listed, and %d read' % (len(ours), len(read) - 1)]
+    for (name, address, length, status, _), line in zip(ours, read[1:]):
+        right = line[:22] == '%s %s ' % (name, address) and line[22:30] == length
+        right = right or name == 'RSDP' and line[5:21] == address
+        if not right or not re.match('ok|malformed' if status == 'ok' else status, line[74:]):
+            wrong.append('%r, not %r' % ((name, address, length, status), line))
+    return wrong
+
+
+def as_read(facts, summary):
+    """What differs between the facts on the screen and acpi_dump's, which has none of an SRAT that is malformed."""
+    theirs = sorted(line for line in summary if FACTS.match(line))
+    if any(line.split()[:3] == ['not', 'read', 'SRAT'] for line in summary):
+        facts = [fact for fact in facts if not fact.startswith('memory domain')]
+    if facts == theirs and len(facts) >= 5:
+        return []
+    return ['here %r, in the text %r' % ([f for f in facts if f not in theirs], [t for t in theirs if t not in facts])]
+
+
+def check_text(lines, text, memory):
+    """What is wrong with the text on the stick."""
+    wrong, tables = [], tables_in(text)
+    comments = joined([line[2:] for line in text.splitlines() if line.startswith('#')])
+    pages = [line for line in lines if line in comments]
+    if pages != comments or len(comments) < 10:
+        wrong.append('the text has other lines than the screen: %r' % [c for c in comments if c not in lines])
+    for name, address, _, _, private in listed(lines):
+        if not private and memory.bytes_at(int(address, 16))[:len(tables.get(int(address, 16), b''))] != \
+                tables.get(int(address, 16)):
+            wrong.append('%s at %s has other bytes than the memory' % (name, address))
+        if private and int(address, 16) in tables:
+            wrong.append('%s is saved' % name)
+    by_name = {name: tables.get(int(address, 16)) for name, address, _, _, _ in listed(lines)}
+    right = plans(by_name.get('FACP'), by_name.get('DSDT'))[:-1]
+    if [line for line in lines if line.startswith('plan ')] != right:
+        wrong.append('plans: not %r' % right)
+    return wrong
+
+
+def check_stick(stick, name):
+    """What is wrong with the rest of the stick: a BIOS writes no other sector than those of its file, and UEFI leaves
+    the other files as they were."""
+    if name == 'BIOS.TXT':
+        with open(stick, 'rb') as now, open(IMAGE, 'rb') as before:
+            now, before = now.read(), before.read()
+        first = before.index(b"# zacpi hasn't written this file yet")
+        same = now[:first] == before[:first] and now[first + SIZE:] == before[first + SIZE:]
+        return [] if same else ['other sectors have changed']
+    names = ['README.TXT', 'BIOS.TXT', 'EFI/BOOT/BOOTX64.EFI', 'EFI/BOOT/BOOTAA64.EFI']
+    return [n + ' has changed' for n in names if mtool('mtype', stick, '::/' + n) != mtool('mtype', IMAGE, '::/' + n)]
+
+
+def check(machine, stick, folder):
+    """What is wrong on a machine, and what was seen."""
+    command, name, goes_on, wanted = machine
+    lines, memory, ended = boot(command, goes_on, stick, folder)
+    with open(os.path.join(folder, 'errors')) as errors:
+        wrong = [] if ended == (0, ['shutdown']) else ['ended by %r: %r, %s' % (ended, lines[-4:], errors.read())]
+    text = mtool('mtype', stick, '::/' + name).decode('latin1')
+    path = os.path.join(folder, name)
+    with open(path, 'w', encoding='latin1') as file:
+        file.write(text)
+    at = {name: int(address, 16) for name, address, _, _, _ in listed(lines)}
+    for line in wanted:
+        line = re.sub(r'(\w{4})\+(0x\w+)', lambda m: '0x%x' % (at.get(m[1], 0) + int(m[2], 16)), line)
+        if line not in lines:
+            wrong.append('the screen hasn\'t %r' % line)
+    wrong += check_text(lines, text.rstrip('\n'), memory) + check_stick(stick, name)
+    facts = sorted(line for line in lines if FACTS.match(line) and not listed([line]))
+    if DUMP:
+        wrong += as_listed(lines, dumped(path))
+        wrong += as_read(facts, dumped('--summary', path))
+    return wrong, '%d tables, %d facts' % (len(listed(lines)), len(facts)), lines
+
+
+def main():
+    passed = failed = 0
+    sticks = {name: os.path.join(FILES.name, name + '.image') for name in ('BIOS.TXT', 'UEFI.TXT')}
+    for stick in sticks.values():
+        shutil.copyfile(IMAGE, stick)
+    for name, machine in MACHINES.items():
+        if PART not in name:
+            continue
+        files = [word.rsplit('=', 1)[1] for word in machine[0] if word.startswith('if=pflash')]
+        missing = [f for f in files if not os.path.exists(f)] + [machine[0][0]] * (not shutil.which(machine[0][0]))
+        if missing:
+            print('skipped: %s, since there is no %s' % (name, missing[0]))
+            continue
+        with tempfile.TemporaryDirectory() as folder:
+            wrong, what, lines = check(machine, sticks[machine[1]], folder)
+        print('%s: %s: %s' % ('FAILED' if wrong else 'ok', name, what))
+        if wrong:
+            print('\n'.join('    ' + line for line in wrong + lines))
+        elif os.environ.get('SHOW'):
+            print('\n'.join(lines))
+        passed, failed = passed + (not wrong), failed + bool(wrong)
+    print('%d passed, %d failed' % (passed, failed))
+    return 1 if failed else 0
+
+
+sys.exit(main())
