@@ -1,5 +1,5 @@
 # SPDX-License-Identifier: MIT
-"""What the runners of `kernel` and `uefi` share: a machine of QEMU, what its serial port says, and its memory."""
+"""What the runners of `kernel`, `uefi` and `stick` share: a machine of QEMU, its serial port, and its memory."""
 import json
 import os
 import re
@@ -78,6 +78,36 @@ def connect(s, path):
     last = time.time() + 20
     while s.connect_ex(path) and time.time() < last:
         time.sleep(0.05)
+
+
+def change(path, where, writes):
+    """Lets the machine run to an address, and writes into its physical memory: the firmware has made its tables by
+    then. What is written, addresses with bytes, is a list, or what a function returns that is passed one which reads
+    memory. QEMU's monitor has no command that writes memory, so its gdb stub does it."""
+    with socket.socket(socket.AF_UNIX) as s:
+        connect(s, path)
+
+        def ask(line):
+            s.sendall(b'$' + line.encode() + b'#%02x' % (sum(line.encode()) & 255))
+            said = b''
+            while not re.search(rb'\$[^#]*#..$', said):
+                said += s.recv(65536)
+            s.sendall(b'+')
+            return said[said.index(b'$') + 1:-3].decode()
+
+        def read(address, length):
+            pieces = range(address, address + length, 1024)
+            return bytes.fromhex(''.join(ask('m%x,%x' % (p, min(1024, address + length - p))) for p in pieces))
+
+        ask('qSupported')
+        ask('?')
+        assert ask('Z1,%x,1' % where) == 'OK'
+        assert ask('c')[0] in 'TS'
+        assert ask('z1,%x,1' % where) == 'OK'
+        assert ask('Qqemu.PhyMemMode:1') == 'OK'
+        for address, data in writes(read) if callable(writes) else writes:
+            assert ask('M%x,%x:%s' % (address, len(data), data.hex())) == 'OK'
+        ask('D')
 
 
 class Ending:

@@ -11,7 +11,6 @@ machines.py KERNEL --faults: boots a kernel on one machine, on which it has to e
 import os
 import re
 import shutil
-import socket
 import struct
 import subprocess
 import sys
@@ -20,7 +19,7 @@ import time
 
 sys.path.append(os.path.join(os.path.dirname(os.path.abspath(__file__)), '..'))
 from checks import check, check_reset, rsdp_in
-from qemu import Ending, Memory, connect, lines_until, numbers, save
+from qemu import Ending, Memory, change, lines_until, numbers, save
 
 KERNEL, VIEW, PACK, GUEST, PART = (sys.argv[1:] + [''] * 4)[:5]
 FILES = tempfile.TemporaryDirectory()
@@ -101,31 +100,6 @@ def grub_image(words):
         f.write('set timeout=0\nmultiboot2 /boot/kernel %s\nboot\n' % words)
     subprocess.run(['grub-mkrescue', '-d', GRUB, '-o', disc, folder], check=True, capture_output=True)
     return disc
-
-
-def change(path, where, writes):
-    """Lets the machine run to an address, and writes into its physical memory: the firmware has made its
-    tables by then. QEMU's monitor has no command that writes memory, so its gdb stub does it."""
-    with socket.socket(socket.AF_UNIX) as s:
-        connect(s, path)
-
-        def ask(line):
-            s.sendall(b'$' + line.encode() + b'#%02x' % (sum(line.encode()) & 255))
-            said = b''
-            while not re.search(rb'\$[^#]*#..$', said):
-                said += s.recv(65536)
-            s.sendall(b'+')
-            return said[said.index(b'$') + 1:-3].decode()
-
-        ask('qSupported')
-        ask('?')
-        assert ask('Z1,%x,1' % where) == 'OK'
-        assert ask('c')[0] in 'TS'
-        assert ask('z1,%x,1' % where) == 'OK'
-        assert ask('Qqemu.PhyMemMode:1') == 'OK'
-        for address, data in writes:
-            assert ask('M%x,%x:%s' % (address, len(data), data.hex())) == 'OK'
-        ask('D')
 
 
 def spans(lines):
