@@ -66,7 +66,7 @@ void print_faults(const struct zacpi_source *source, const struct entry *entries
     struct zacpi_gic_distributor distributor;
     const int is_arm = !zacpi_get_gic_distributor(source, &distributor, &named);
     found = 0;
-    say(p, "\f");
+    say(p, "\fFaults:\n");
     for (size_t i = 0; i < count; i++)
         if (entries[i].status)
             begin(p, (const char *)entries[i].letters, entries[i].address), end(p, entries[i].status, "");

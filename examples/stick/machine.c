@@ -195,7 +195,7 @@ static void print_memory(const struct zacpi_source *source, const struct printer
 }
 
 void print_machine(const struct zacpi_source *source, const struct printer *p) {
-    say(p, "\f");
+    say(p, "\fThe machine:\n");
     print_platform(source, p);
     print_timers(source, p);
     print_pci(source, p);
@@ -206,7 +206,7 @@ void print_power(const struct zacpi_source *source, const struct printer *p) {
     struct zacpi_fixed_hardware fixed;
     struct zacpi_sleep_types types;
     struct zacpi_plan enable;
-    say(p, "\f");
+    say(p, "\fPower:\n");
     if (!zacpi_get_fixed_hardware(source, &fixed, &named) && fixed.arm_boot_flags & ZACPI_ARM_PSCI_COMPLIANT)
         say(p, fixed.arm_boot_flags & ZACPI_ARM_PSCI_USE_HVC ? "power\tby PSCI, HVC\n" : "power\tby PSCI, SMC\n");
     for (uint32_t state = 1; state < 6; state++)

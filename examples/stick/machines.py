@@ -17,7 +17,7 @@ import time
 
 sys.path.append(os.path.join(os.path.dirname(os.path.abspath(__file__)), '..'))
 from plans import plans
-from qemu import Ending, Memory, save
+from qemu import Ending, Memory, change, save
 
 IMAGE, DUMP, PART = (sys.argv[1:] + ['', ''])[:3]
 FILES = tempfile.TemporaryDirectory()
@@ -25,8 +25,8 @@ PROMPT = rb'-- a key shows the next page[^\n]*--'
 # What the firmware sends to a terminal beside text.
 CONTROLS = re.compile(rb'\x1b(\[[0-9;=?]*[A-Za-z]|c)|\r')
 # The names of facts that the screen has as acpi_dump --summary has them.
-FACTS = re.compile(r'(profile|processors?|interrupts|I/O APIC|PM timer|HPET|PCI segment|memory domain|redistributors|ITS)'
-                   r'\b')
+FACTS = re.compile(r'(profile|processors?|interrupts|I/O APIC|PM timer|HPET|PCI segment|memory domain|redistributors|'
+                   r'ITS)\b')
 WIDTH = 21  # the column of what a name means
 PARTITION = 1 << 20
 SIZE = 4 << 20  # of the file that a BIOS writes
@@ -61,30 +61,47 @@ def wrong_tables():
             table(b'MSDM', struct.pack('<5I', 1, 0, 1, 0, 29) + b'AAAAA-BBBBB-CCCCC-DDDDD-EEEEE'))
 
 
+def wrong_sums(read):
+    """What makes the sums of the HPET and of the RSDT wrong, as writes: a byte that nobody reads, of OEM Revision, at
+    24. The RSDP is at a multiple of 16 in the BIOS area, with the RSDT's address at 16 (section 5.2.5.3)."""
+    area = read(0xe0000, 0x20000)
+    found = [at for at in range(0, len(area), 16) if area[at:at + 8] == b'RSD PTR ']
+    rsdp = next(at for at in found if not sum(area[at:at + 20]) & 255)
+    root = struct.unpack_from('<I', area, rsdp + 16)[0]
+    length = struct.unpack('<I', read(root + 4, 4))[0]
+    members = [p for p, in struct.iter_unpack('<I', read(root + 36, length - 36))]
+    hpet = next(p for p in members if read(p, 4) == b'HPET')
+    return [(at + 24, bytes([read(at + 24, 1)[0] ^ 0x80])) for at in (root, hpet)]
+
+
 OVMF = uefi('qemu-system-x86_64', '/usr/share/OVMF/OVMF_CODE_4M.fd', '/usr/share/OVMF/OVMF_VARS_4M.fd')
 AAVMF = uefi('qemu-system-aarch64', '/usr/share/AAVMF/AAVMF_CODE.fd', '/usr/share/AAVMF/AAVMF_VARS.fd')
-# Of each the command, the file that it writes, whether the first page has to go by itself, and facts and faults that
-# the screen has to have. The BIOS machines have one stick: the second one's text is shorter.
+NO_FAULT = 'The library finds no fault.'
+# Of each the command, the file that it writes, and lines that the screen has to have; the first page of one machine has
+# to go by itself. The BIOS machines have one stick: texts after the first are shorter.
 MACHINES = {
-    'q35, SeaBIOS': (bios('q35') + NUMA, 'BIOS.TXT', True,
-                     ['memory domain 1      128 MiB from 0x8000000 on', 'The library finds no fault.']),
-    'pc with wrong tables, SeaBIOS': (bios('pc') + wrong_tables(), 'BIOS.TXT', False,
-                                      ['memory domain 7      16 MiB from 0x100000000 on',
-                                       'OEM1 at OEM1+0x0: SdtInvalidOemId',
-                                       'entry of type 1 of SRAT at SRAT+0x58: InvalidSrat InvalidEntryLength',
-                                       'faults that the library finds: 2']),
-    'q35, OVMF': (OVMF + ['-machine', 'q35'], 'UEFI.TXT', False, ['The library finds no fault.']),
-    'virt, AAVMF': (AAVMF + ['-machine', 'virt,gic-version=3', '-cpu', 'cortex-a57'], 'UEFI.TXT', False,
-                    ['timer EL1 virtual    interrupt 27, level, active high', 'power                by PSCI, HVC',
-                     'The library finds no fault.']),
+    'q35, SeaBIOS': (bios('q35') + NUMA, 'BIOS.TXT', ['memory domain 1      128 MiB from 0x8000000 on', NO_FAULT]),
+    'pc with wrong tables, SeaBIOS': (bios('pc') + wrong_tables(), 'BIOS.TXT', [
+        'memory domain 7      16 MiB from 0x100000000 on', 'OEM1 at OEM1+0x0: SdtInvalidOemId',
+        'entry of type 1 of SRAT at SRAT+0x58: InvalidSrat InvalidEntryLength', 'faults that the library finds: 2']),
+    'pc with wrong sums, SeaBIOS': (bios('pc'), 'BIOS.TXT', [
+        'RSDT at RSDT+0x0: SdtInvalidChecksum', 'HPET at HPET+0x0: SdtInvalidChecksum',
+        'faults that the library finds: 2']),
+    'q35, OVMF': (OVMF + ['-machine', 'q35'], 'UEFI.TXT', [NO_FAULT]),
+    'virt, AAVMF': (AAVMF + ['-machine', 'virt,gic-version=3', '-cpu', 'cortex-a57'], 'UEFI.TXT', [
+        'timer EL1 virtual    interrupt 27, level, active high', 'power                by PSCI, HVC', NO_FAULT]),
 }
+GOES_ON = 'q35, SeaBIOS'
+# What is written into the machine's memory when its BIOS starts what the first sector has.
+WRITES = {'pc with wrong sums, SeaBIOS': (0x7c00, wrong_sums)}
 
 
 class Guest:
     """A machine that boots from a stick. Each page ends with a prompt."""
 
-    def __init__(self, command, stick, folder):
-        self.monitor, qmp = os.path.join(folder, 'monitor'), os.path.join(folder, 'qmp')
+    def __init__(self, command, stick, folder, writes):
+        self.monitor, qmp, gdb = (os.path.join(folder, name) for name in ('monitor', 'qmp', 'gdb'))
+        command = command + ['-S', '-gdb', 'unix:%s,server=on,wait=off' % gdb] * bool(writes)
         self.errors = open(os.path.join(folder, 'errors'), 'w+')
         self.process = subprocess.Popen(
             command + ['-accel', 'tcg', '-nodefaults', '-no-user-config', '-display', 'none', '-no-reboot',
@@ -93,6 +110,8 @@ class Guest:
                        '-device', 'qemu-xhci', '-device', 'usb-storage,drive=stick,removable=on'],
             stdin=subprocess.PIPE, stdout=subprocess.PIPE, stderr=self.errors)
         self.said, self.ending = b'', Ending(qmp)
+        if writes:
+            change(gdb, *writes)
 
     def page(self):
         """The lines of the next page, or of all that comes before the end."""
@@ -113,7 +132,7 @@ class Guest:
         self.process.stdin.flush()
 
     def ended(self):
-        return self.process.wait(60), self.ending.how()
+        return self.process.wait(300), self.ending.how()
 
     def stop(self):
         if self.process.poll() is None:
@@ -139,9 +158,9 @@ def listed(lines):
     return [m.groups() for m in found if m]
 
 
-def boot(command, goes_on, stick, folder):
+def boot(name, stick, folder):
     """The lines of all pages, the memory of the tables that they list, and how the machine ended."""
-    guest = Guest(command, stick, folder)
+    guest, goes_on = Guest(MACHINES[name][0], stick, folder, WRITES.get(name)), name == GOES_ON
     try:
         lines, files, has_prompt = [], [], True
         while has_prompt:
@@ -163,7 +182,7 @@ def mtool(name, image, *words):
 
 
 def tables_in(text):
-    """The tables of acpidump's text, by address: a heading, and rows of an offset and up to 16 bytes."""
+    """The bytes of the tables of acpidump's text, by address: a heading, and rows of an offset and up to 16 bytes."""
     tables, address = {}, None
     for line in text.splitlines():
         heading, row = re.fullmatch(r'(\S+) @ 0x([0-9A-F]{16})', line), re.match(r' *([0-9A-F]{4,8}): (.{47})', line)
@@ -171,8 +190,7 @@ def tables_in(text):
             address = int(heading[2], 16)
             tables[address] = b''
         elif row and not line.startswith('#'):
-            assert int(row[1], 16) == len(tables[address])
-            tables[address] += bytes.fromhex(row[2])
+            tables[address] += bytes.fromhex(row[2]) if int(row[1], 16) == len(tables[address]) else b'a wrong offset'
     return tables
 
 
@@ -195,10 +213,12 @@ def as_listed(lines, read):
 
 
 def as_read(facts, summary):
-    """What differs between the facts on the screen and acpi_dump's, which has none of an SRAT that is malformed."""
+    """What differs between the facts on the screen and acpi_dump's, which has none of an SRAT that is malformed, nor of
+    an HPET whose sum is wrong."""
     theirs = sorted(line for line in summary if FACTS.match(line))
-    if any(line.split()[:3] == ['not', 'read', 'SRAT'] for line in summary):
-        facts = [fact for fact in facts if not fact.startswith('memory domain')]
+    for signature, name in (('SRAT', 'memory domain '), ('HPET', 'HPET ')):
+        if any(line.split()[:3] == ['not', 'read', signature] for line in summary):
+            facts = [fact for fact in facts if not fact.startswith(name)]
     if facts == theirs and len(facts) >= 5:
         return []
     return ['here %r, in the text %r' % ([f for f in facts if f not in theirs], [t for t in theirs if t not in facts])]
@@ -239,8 +259,8 @@ def check_stick(stick, name):
 
 def check(machine, stick, folder):
     """What is wrong on a machine, and what was seen."""
-    command, name, goes_on, wanted = machine
-    lines, memory, ended = boot(command, goes_on, stick, folder)
+    _, name, wanted = MACHINES[machine]
+    lines, memory, ended = boot(machine, stick, folder)
     with open(os.path.join(folder, 'errors')) as errors:
         wrong = [] if ended == (0, ['shutdown']) else ['ended by %r: %r, %s' % (ended, lines[-4:], errors.read())]
     text = mtool('mtype', stick, '::/' + name).decode('latin1')
@@ -274,7 +294,7 @@ def main():
             print('skipped: %s, since there is no %s' % (name, missing[0]))
             continue
         with tempfile.TemporaryDirectory() as folder:
-            wrong, what, lines = check(machine, sticks[machine[1]], folder)
+            wrong, what, lines = check(name, sticks[machine[1]], folder)
         print('%s: %s: %s' % ('FAILED' if wrong else 'ok', name, what))
         if wrong:
             print('\n'.join('    ' + line for line in wrong + lines))
