@@ -4,7 +4,7 @@ import z3
 
 from validate_terms import POINTER, moved, number, simple
 
-MOST_COPIED = 64  # bytes that a copy of memory is followed through
+MOST_COPIED = 512  # bytes that a copy of memory is followed through
 
 
 arrays_of_terms = {}
@@ -21,6 +21,14 @@ def arrays_in(term):
             found |= arrays_in(one)
         arrays_of_terms[key] = found, term
     return arrays_of_terms[key][0]
+
+
+def is_given(address):
+    """Whether an address is made of a function's parameters alone: no array of the function is there."""
+    children = address.children()
+    if not children:
+        return z3.is_bv_value(address) or address.decl().name().startswith('given ')
+    return address.decl().kind() != z3.Z3_OP_UNINTERPRETED and all(map(is_given, children))
 
 
 class Memory:
@@ -80,7 +88,8 @@ class Memory:
         if region != to_region:
             to_own = to_region and to_region not in self.escaped
             both_arrays = region and to_region
-            return None if own or to_own or both_arrays else self.unknown(address)
+            given = is_given(address) or is_given(to_address)
+            return None if own or to_own or both_arrays or given else self.unknown(address)
         distance = simple(address - to_address)
         if z3.is_bv_value(distance):
             return stored[distance.as_long()] if distance.as_long() < len(stored) else None

@@ -27,17 +27,17 @@ class Function(C):
     def __init__(self, text, numbers, static, heads):
         self.steps, self.static, self.heads, self.known = Steps(text, numbers), static, heads, heads
         self.facts, self.sides, self.switches, self.context = [], {}, {}, []
-        self.reach, self.made = z3.BoolVal(True), 0
+        self.reach, self.made, self.placed = z3.BoolVal(True), 0, {}
 
     # What C computes, with unknown values where nothing is known
 
-    def fresh(self, kind):
+    def fresh(self, kind, name=None):
         self.made += 1
         kind = plain(kind)
         if kind in self.heads.pairs:
             return Value(kind, tuple(self.fresh(part) for part in self.heads.pairs[kind]))
         width = 32 if kind.startswith('struct zacpi') else width_of(kind)
-        term = z3.BitVec(f'any {self.made}', width)
+        term = z3.BitVec(name or f'any {self.made}', width)
         if kind == '_Bool':
             self.facts.append(z3.ULE(term, 1))
         return Value('u32' if kind.startswith('struct zacpi') else kind, term)
@@ -59,6 +59,9 @@ class Function(C):
         way.values[name] = self.fresh(kind)
         return way.values[name]
 
+    def value(self, way, node):
+        return self.choice(way, node) if isinstance(node, c_ast.TernaryOp) else super().value(way, node)
+
     def choice(self, way, node):
         """Each side under its condition, which is one that z3 is asked about."""
         place, mine = self.asked(node.cond)
@@ -78,10 +81,13 @@ class Function(C):
         return Value(yes.kind, simple(z3.If(condition, yes.term, no.term)))
 
     def asked(self, node):
-        """Where the sides of a condition go, which come before those of conditions in it."""
-        place = self.sides.setdefault(self.line_of(node), [])
-        place += [None, None]
-        return place, len(place) - 2
+        """Where the sides of a condition go, which come before those of conditions in it. A copy's length is read
+        twice."""
+        if node not in self.placed:
+            place = self.sides.setdefault(self.line_of(node), [])
+            self.placed[node] = place, len(place)
+            place += [None, None]
+        return self.placed[node]
 
     def line_of(self, node):
         own = [node.coord.line] if getattr(node, 'coord', None) else []
@@ -101,14 +107,15 @@ class Function(C):
     def explore(self):
         """Goes through the steps, each after all that lead to it, and gathers what z3 is told and asked."""
         order, back = self.ordered()
-        begin = State({}, Memory('begin', None, frozenset()), self.static)
+        given = {one.name: self.fresh(type_of(one.type), f'given {one.name}') for one in self.steps.parameters}
+        begin = State(given, Memory('begin', None, frozenset()), self.static)
         arrivals = {0: [(z3.BoolVal(True), begin)]}
         for at in order:
             if at not in arrivals:
                 continue
             self.reach, state = self.joined(at, arrivals.pop(at))
             if at in back:
-                self.forget(state, back[at])
+                self.forget(state, back[at], self.steps.scopes[at])
             for target, condition in self.step(state, at):
                 if (at, target) in self.backward:
                     continue
@@ -202,7 +209,7 @@ class Function(C):
         self.facts.append(name == condition)
         return name
 
-    def forget(self, state, body):
+    def forget(self, state, body, scope):
         """What a loop changes has unknown values where it begins."""
         words, changes = set(), False
         for at in body:
@@ -214,6 +221,9 @@ class Function(C):
                     changes |= self.look_through(node, state, words)
         if changes:
             state.memory = Memory('loop', state.memory, state.memory.escaped, frozenset(words))
+        for name in sorted(scope):
+            if state.values.get(name, self) is None:
+                state.values[name] = self.fresh(self.steps.types[name])
 
     def look_through(self, node, state, words):
         """Takes the arrays that a statement names, and makes what it sets unknown. Whether it changes memory."""
