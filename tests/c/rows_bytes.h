@@ -118,6 +118,8 @@ static const struct zacpi_region laid[] = {LAID(IN_APIC, madt_whole), LAID(IN_SR
     LAID(IN_IORT, iort_whole), LAID(IN_HMAT, hmat_whole), LAID(IN_CEDT, cedt_whole), LAID(IN_FPDT, fpdt_whole),
     LAID(IN_SEVEN, oem_seven), LAID(IN_TURNED, oem_turned)};
 
+/* 35 bytes of the first. */
+static const struct zacpi_region laid_35[] = {{TABLE(IN_APIC), madt_whole, 35}};
 static const struct entries_row {
     const struct zacpi_region *regions;
     size_t regions_length;
@@ -186,6 +188,11 @@ static const struct entries_row {
     {REGIONS(laid), ZACPI_ACCEPT_SUMS, IN_SUM, {36, 0, 1, 1, 1}, ZACPI_OK, NULL, 0, 1, {0}}, /* a Length of 0 */
     {REGIONS(laid), 4, IN_SUM, {36, 0, 8, 1, 1}, ZACPI_UNKNOWN_POLICY, NULL, 0, 0, {0}},
     {REGIONS(laid), 3, IN_OTHER, {36, 0, 1, 1, 1}, ZACPI_SDT_INVALID_SIGNATURE, "\377OEM", 0, 0, {0}},
+    {laid, 1, 0, IN_APIC, {52, 0, 1, 1, 1}, ZACPI_OK, NULL, 2, 0,
+     {TABLE(IN_APIC) + 52, 1, 12, TABLE(IN_APIC) + 64, 0x80, 2}},
+    {NULL, 0, 0, IN_APIC, {52, 0, 1, 1, 1}, ZACPI_MAP_FAILED, NULL, 0, 0, {0}},
+    {laid + 1, 1, 0, IN_APIC, {52, 0, 1, 1, 1}, ZACPI_MAP_FAILED, NULL, 0, 0, {0}},
+    {REGIONS(laid_35), 0, IN_APIC, {52, 0, 1, 1, 1}, ZACPI_MAP_FAILED, NULL, 0, 0, {0}},
     {REGIONS(laid), 0, IN_LOST, {36, 0, 1, 1, 1}, ZACPI_MAP_FAILED, NULL, 0, 0, {0}},
     {REGIONS(laid), 0, NOWHERE, {36, 0, 1, 1, 1}, ZACPI_MAP_FAILED, NULL, 0, 0, {0}},
     {REGIONS(laid), 0, NOWHERE, {36, 0, 8, 8, 8}, ZACPI_UNKNOWN_WIDTH, NULL, 0, 0, {0}},

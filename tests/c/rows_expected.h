@@ -656,7 +656,7 @@ static const struct row rows[] = {
     REFUSED(distance, EMPTY, NULL, A(0, 0), ZACPI_TABLE_MISSING, "SLIT")};
 
 struct clip_lists {
-    struct zacpi_range ranges[6], without[2];
+    struct zacpi_range ranges[6], without[5];
 };
 static const struct clip {
     struct clip_lists given;
@@ -664,7 +664,7 @@ static const struct clip {
     struct zacpi_range window;
     zacpi_status status;
     size_t count;
-    uint64_t values[6];     /* address and length of each */
+    uint64_t values[12];    /* address and length of each */
     struct clip_lists left; /* what the lists are afterwards */
 } clips[] = {
     /* One that touches, two that overlap, and one of no bytes. */
@@ -696,6 +696,11 @@ static const struct clip {
     {{{{0x1000, 0x1000}, {0x2000, 0}, {0x2000, 0x1000}, {0x9000, 1}}, {{0, 0}, {0x1800, 0x800}}}, 4, 2, {0, ONES},
      ZACPI_OK, 3, {0x1000, 0x800, 0x2000, 0x1000, 0x9000, 1},
      {{{0x1000, 0x1000}, {0x2000, 0}, {0x2000, 0x1000}, {0x9000, 1}}, {{0, 0}, {0x1800, 0x800}}}},
+    /* Five are left out of one. */
+    {{{{0x1000, 0x9000}}, {{0x2000, 0x800}, {0x3000, 0x800}, {0x4000, 0x800}, {0x5000, 0x800}, {0x6000, 0x800}}}, 1, 5,
+     {0, ONES}, ZACPI_OK, 6,
+     {0x1000, 0x1000, 0x2800, 0x800, 0x3800, 0x800, 0x4800, 0x800, 0x5800, 0x800, 0x6800, 0x3800},
+     {{{0x1000, 0x9000}}, {{0x2000, 0x800}, {0x3000, 0x800}, {0x4000, 0x800}, {0x5000, 0x800}, {0x6000, 0x800}}}},
     /* None has a byte. */
     {{{{0x3000, 0}, {0x1000, 0}, {0x1000, 0}}, {{0x2000, 0}, {0x1000, 0}}}, 3, 2, {0, ONES}, ZACPI_OK, 0, {0},
      {{{0x1000, 0}, {0x1000, 0}, {0x3000, 0}}, {{0x1000, 0}, {0x2000, 0}}}},

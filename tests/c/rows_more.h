@@ -124,6 +124,12 @@ static void check_bad_tables(void) {
         got = zacpi_tables_size(&machine, &size);
         result(got == ZACPI_BAD_TABLE && size == UNCOUNTED, "a bad table's size", (int)i, 0, got);
     }
+    { /* a DSDT of 2^32 + 35 bytes, of which none is read */
+        static const struct zacpi_aml_contents too_long = {code, UINT32_MAX, 2};
+        const struct zacpi_machine machine = {*ids, &not_listed, 0, &too_long, 1, &facs, 0};
+        got = zacpi_tables_size(&machine, &size);
+        result(got == ZACPI_TOO_LONG && size == UNCOUNTED, "the size of a long DSDT", 0, 0, got);
+    }
     for (i = 0; i < 3; i++) {
         length = paint_size(&out_count);
         got = on_machine(&not_listed, 0, 0, 0, addresses[i], 0, (uint8_t *)paint(&out, 100), 100, length);

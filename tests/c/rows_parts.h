@@ -157,7 +157,10 @@ static const struct there_row {
     {REGIONS(laid), 4, TABLE(IN_SUM), ZACPI_UNKNOWN_POLICY, NULL, {0}},
     {REGIONS(placed_over), 4, TABLE(IN_APIC), ZACPI_REGIONS_NOT_ASCENDING, NULL, {0}},
     {REGIONS(placed_too_high), 0, TABLE(IN_APIC), ZACPI_REGION_TOO_HIGH, NULL, {0}},
-    {NULL, 0, 0, TABLE(IN_APIC), ZACPI_MAP_FAILED, NULL, {0}}};
+    {NULL, 0, 0, TABLE(IN_APIC), ZACPI_MAP_FAILED, NULL, {0}},
+    {laid, 1, 0, TABLE(IN_APIC), ZACPI_OK, NULL, {TABLE(IN_APIC), 66, LETTERS('A', 'P', 'I', 'C'), 0, NO_IDS}},
+    {laid + 1, 1, 0, TABLE(IN_APIC), ZACPI_MAP_FAILED, NULL, {0}},
+    {REGIONS(laid_35), 0, TABLE(IN_APIC), ZACPI_MAP_FAILED, NULL, {0}}};
 static const struct call call_there = {"get_table", NULL, of_table, sizeof(table), 0};
 
 static void check_there(const struct there_row *row) {

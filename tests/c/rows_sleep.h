@@ -1,9 +1,10 @@
-/* The blocks of AML of rows_states.h as DSDTs, each at the end of its region. For rows.c. */
+/* The blocks of AML of rows_states.h and rows_aml.h as DSDTs, each at the end of its region. For rows.c. */
 #ifndef ROWS_SLEEP_H
 #define ROWS_SLEEP_H
 #include "rows_states.h"
+#include "rows_aml.h"
 
-static void check_state(const struct state_row *row) {
+static void check_state(const struct state_row *row, size_t number) {
     static uint8_t rsdt[40] = {'R', 'S', 'D', 'T', 40, [8] = 1, [37] = 0x20};
     static uint8_t fadt[116] = {'F', 'A', 'C', 'P', 116, [8] = 1, [41] = 0x30}; /* DSDT */
     static uint8_t dsdt[36 + 4200];
@@ -20,11 +21,12 @@ static void check_state(const struct state_row *row) {
     source.regions = all_at_edge(regions, 3);
     got = zacpi_get_sleep_types(&source, row->state, (sleep_pair *)paint(&out, sizeof(sleep_pair)), &named);
     result(got == row->status && !memcmp(named.letters, carried, 4) && is_written(&call_get_sleep_types, values, !got),
-           "get_sleep_types", (int)(row - states), row->length, got);
+           "get_sleep_types", (int)number, row->length, got);
 }
 
 static void check_states(void) {
-    const struct state_row *row;
-    for (row = states; row < states + sizeof states / sizeof *states; row++) check_state(row);
+    size_t i;
+    for (i = 0; i < sizeof states / sizeof *states; i++) check_state(states + i, i);
+    for (i = 0; i < sizeof more_states / sizeof *more_states; i++) check_state(more_states + i, 10000 + i);
 }
 #endif

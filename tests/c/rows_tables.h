@@ -6,7 +6,7 @@
 #include "zacpi.h"
 
 #define BASE 0x100000u
-#define SIZE 0x28000u
+#define SIZE 0x30000u
 #define AT(n) (BASE + 0x200u * (n))       /* where table N lies */
 #define TAIL (BASE + SIZE - 36u)          /* the last 36 bytes: a header whose table isn't lent as a whole */
 #define CUT(n) (0x180000u + 0x1000u * (n)) /* three regions with the first bytes of a table each */
@@ -22,6 +22,8 @@
 #define LONG_BIOS 0x40000000u /* where another first area is kept, which has RSDPs that are too long */
 #define EBDA 0x90000u /* the second, by the word at 0x40e, and the 16 bytes after it */
 #define EBDA_SIZE 0x410u
+#define HIGH_EBDA 0x9fc10u /* another, which ends at 640 KiB */
+#define HIGH_EBDA_SIZE 0x3f0u
 #define ONES UINT64_MAX
 #define HEADER(type, length) ((type) | (length) << 8) /* Type and Length of an entry, one byte each */
 
@@ -46,6 +48,10 @@ enum { EMPTY, ARM, PC, ODD, HOLES, SUM, DESKTOP, MOBILE, WORKSTATION, SERVER, SO
        ENDS_OTHER, GICCS, PART, PART_X, LOW, POWER_X, UNITS_9, UNITS_1, SRAT_9, PARTLY, HPET_IDS_ONLY,
        SCI_20, SCI_AS_BUS, SLIT_OF_11, SLIT_OF_10, SLIT_OF_MANY, NO_GICD_0, NO_GICD_OTHER, NMI_TRIGGER, X2_LINT_2,
        OVERRIDE_POLARITY, OVERRIDE_TRIGGER, UNITS_LONG, TIMERS_3,
+       GICC_78, FLAWED_PC, TEXT_IDS, LOST, PINS, OTHER_BUS, LEFT_1, LEFT_2, LEFT_2_OF_2, TIMER_OF_2, TIMER_TYPES,
+       NO_TIMER, LOW_FACS, X_DSDT, RESET_128, RESET_116, CONTROL_0, CONSOLE_85, CONSOLE_87, NOT_ENABLED, UNSCOPED_UNITS,
+       ONE_BYTE_MORE, WIDE_CONTROL, HPET_ID_80, HOPS, SUM_FIRST, LEFT_45, LEFT_47, LEFT_53, SOURCE_16, SCI_TRIGGER,
+       HIGH_BUS,
        ROOT_TABLE_ID, ROOT_35, ROOT_X_TABLE_ID, /* root tables, in the order of `tables` */
        RSDP_0, RSDP_2, RSDP_40, RSDP_MIXED, RSDP_LONG, RSDP_LOST, RSDP_CUT, RSDP_SHORT, RSDP_TO_SUM, RSDP_OEM_ID,
        RSDP_NONE, /* RSDPs, and the last one is none */
@@ -68,7 +74,12 @@ enum { EMPTY, ARM, PC, ODD, HOLES, SUM, DESKTOP, MOBILE, WORKSTATION, SERVER, SO
        MADT_NO_GICD_5, MADT_NO_GICD_LATER_0, MADT_NO_GICD_LATER_5, MADT_ENDS_OTHER, MADT_GICCS, DMAR_9, DMAR_1, IVRS_9,
        IVRS_1, SRAT_OTHERS, HPET_OEM_ID, HPET_BOTH,
        FADT_SCI_20, MADT_AS_BUS, SLIT_11, SLIT_10, SLIT_MANY, MADT_NO_GICD_0, MADT_NO_GICD_OTHER, MADT_NMI_TRIGGER,
-       MADT_X2_LINT_2, MADT_OVERRIDE_POLARITY, MADT_OVERRIDE_TRIGGER, IVRS_LONG, GTDT_3 };
+       MADT_X2_LINT_2, MADT_OVERRIDE_POLARITY, MADT_OVERRIDE_TRIGGER, IVRS_LONG, GTDT_3,
+       MADT_GICC_78, MADT_TEXT, HPET_TEXT, MADT_LONG, HPET_LONG, MADT_PINS, GTDT_LEFT_1, GTDT_LEFT_2, GTDT_LEFT_2_OF_2,
+       GTDT_OF_2, GTDT_TYPES, GTDT_NONE, FADT_LOW_FACS, FADT_X_DSDT, FADT_128, FADT_RESET_116, FADT_CONTROL_0, SPCR_85,
+       SPCR_87, SRAT_NOT_ENABLED, DMAR_UNSCOPED, DMAR_17, IVRS_ENDS, IVRS_OTHERS, FADT_CONTROL_32,
+       HPET_80, DMAR_HOPS, IVRS_LATER, MADT_45, MADT_47, MADT_53, MADT_SOURCE_16, MADT_SCI_TRIGGER, MCFG_HIGH,
+       SLIT_ONES, FADT_B_32 };
 
 /* Entry[n] of an RSDT, from 36 on (section 5.2.7), and of an XSDT (section 5.2.8). */
 PUTS(no_fields, {36, 0, 0});
@@ -278,6 +289,7 @@ PUTS(slit_odd, {36, 8, 3}, {44, 1, 10}, {45, 1, 9}, {46, 1, 8}, {47, 1, 255}); /
 #include "rows_tables_every.h"
 #include "rows_tables_kinds.h"
 #include "rows_tables_pc.h"
+#include "rows_tables_lengths.h"
 #include "rows_tables_power.h"
 
 static const struct table {
@@ -328,7 +340,7 @@ static const struct table {
     {AT(NO_GICD_OTHER), "RSDT", 1, 44, no_gicd_other}, {AT(NMI_TRIGGER), "RSDT", 1, 44, nmi_trigger},
     {AT(X2_LINT_2), "RSDT", 1, 44, x2_lint_2}, {AT(OVERRIDE_POLARITY), "RSDT", 1, 44, override_polarity},
     {AT(OVERRIDE_TRIGGER), "RSDT", 1, 44, override_trigger}, {AT(UNITS_LONG), "RSDT", 1, 40, units_long},
-    {AT(TIMERS_3), "RSDT", 1, 40, timers_3},
+    {AT(TIMERS_3), "RSDT", 1, 40, timers_3}, ROOTS_OF_LENGTHS,
     {AT(ROOT_TABLE_ID), "RSDT", 1, 36, root_table_id}, {AT(ROOT_35), "RSDT", 1, 35, no_fields},
     {AT(ROOT_X_TABLE_ID), "XSDT", 1, 36, root_table_id},
     {AT(MADT_GIC), "APIC", 6, 346, madt_gic}, {AT(GTDT), "GTDT", 3, 260, gtdt}, {AT(SRAT), "SRAT", 3, 274, srat},
@@ -421,7 +433,7 @@ static const struct table {
     {AT(MADT_NMI_TRIGGER), "APIC", 5, 52, madt_nmi_trigger}, {AT(MADT_X2_LINT_2), "APIC", 5, 56, madt_x2_lint_2},
     {AT(MADT_OVERRIDE_POLARITY), "APIC", 5, 54, madt_override_polarity},
     {AT(MADT_OVERRIDE_TRIGGER), "APIC", 5, 54, madt_override_trigger}, {AT(IVRS_LONG), "IVRS", 2, 124, ivrs_long},
-    {AT(GTDT_3), "GTDT", 3, 124, gtdt_3},
+    {AT(GTDT_3), "GTDT", 3, 124, gtdt_3}, LAID_OF_LENGTHS,
     {LAST_MADT, "APIC", 5, LAST_MADT_SIZE, last_madt}, {LAST_IVRS, "IVRS", 2, LAST_IVRS_SIZE, last_ivrs},
     {BIOS + 0x10000, "RSDT", 1, 36, no_fields}};
 
@@ -439,7 +451,8 @@ static const struct rsdp {
     {AT(RSDP_SHORT), 0, 2, 0, 35, AT(PC)}, {AT(RSDP_TO_SUM), 0, 0, AT(SUM), 0, 0},
     {AT(RSDP_OEM_ID), 0xff, 0, AT(ARM), 0, 0},
     {BIOS + 0x1ffe0, 0, 0, BIOS + 0x10000, 0, 0},
-    {EBDA + 0x40, 0, 0, 0x200000, 0, 0}, {EBDA + 0x3e0, 0, 2, 0, 0x31, AT(PC)},
+    {HIGH_EBDA + 0x3c0, 0, 0, 0x200000, 0, 0}, {EBDA + 0x40, 0, 0, 0x200000, 0, 0},
+    {EBDA + 0x3e0, 0, 2, 0, 0x31, AT(PC)},
     /* A byte too long for the area with the 16 bytes after it; too short; not UTF-8; and in the last 32 bytes. */
     {LONG_BIOS, 0, 2, 0, BIOS_SIZE + 1, AT(PC)}, {LONG_BIOS + 0x40, 0, 2, 0, 35, AT(PC)},
     {LONG_BIOS + 0x80, 0xff, 2, 0, SIZE, AT(PC)}, {LONG_BIOS + 0x1ffe0, 0, 2, 0, 64, AT(PC)}};
