@@ -148,6 +148,10 @@ static const struct row length_rows[] = {
          UNPINNED(13), UNPINNED(14), UNPINNED(15)),
     REFUSED(get_sci_interrupt, SCI_TRIGGER, NULL, NO, ZACPI_MADT_MPS_INTI_INVALID_TRIGGER_MODE, NULL),
     GOOD(list_ecam_ranges, HIGH_BUS, NULL, NO, 1, 0, 0, 0, 0),
+    GOOD(get_fixed_hardware, NO_BLOCKS, NULL, NO, 1, 0, 0, 0, 1, 0, 0, 0, 1, ABSENT, 0, 1, 0, 0, 0, 1, ABSENT,
+         ABSENT, ABSENT, ABSENT, ABSENT, 0, 0, 0, 0, 0, 1, 0, 0, 0, 0, 0, 1, 0, 0, 0, 0, 0, 1,
+         0, 0, 0, 0, 0, 0, 0, 0, 0, 0, 0, 0, 0, 0, 0, 0, 0, 0, 0, 0, 0, 0, 0, 0, 0, 0, 0, 0, 0, 0, 6, 0, 0),
+    GOOD(get_pm_timer, NO_BLOCKS, NULL, NO, 1, ABSENT, 0),
     REFUSED(distance, HIGH_BUS, NULL, A(1, 5), ZACPI_NO_DISTANCE, NULL), /* 2^64 + 4 */
     REFUSED(get_sleep_plan, HIGH_BUS, NULL, A(5), ZACPI_INVALID_GENERIC_ADDRESS, NULL),
     GOOD(list_dmar_scopes, HOPS, NULL, A(0), 1, 17, 1, 0, 0, 0, 1, 2, 3, 4, 5, 6),

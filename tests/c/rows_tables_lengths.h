@@ -105,6 +105,8 @@ PUTS(fadt_reset_116, {112, 4, 0x400} /* Flags: RESET_REG_SUP */);
 PUTS(fadt_control_0, {40, 4, AT(DSDT_S5)} /* DSDT */, {112, 4, 0x100000} /* Flags: HW_REDUCED_ACPI */,
      GENERIC(244, 0, 8, 0, 1, 0) /* SLEEP_CONTROL_REG */);
 /* PM1_CNT_LEN is 32, of which the bits are more than a byte, for both blocks or for PM1b_CNT_BLK alone. */
+/* Revision 6: blocks that have a length and no address. */
+PUTS(fadt_no_blocks, {91, 1, 4} /* PM_TMR_LEN */, {92, 1, 8} /* GPE0_BLK_LEN */, {93, 1, 16} /* GPE1_BLK_LEN */);
 PUTS(fadt_b_32, {40, 4, AT(DSDT_S5)} /* DSDT */, {68, 4, 0x704} /* PM1b_CNT_BLK */, {89, 1, 32} /* PM1_CNT_LEN */,
      GENERIC(172, 1, 16, 0, 0, 0x604) /* X_PM1a_CNT_BLK */);
 PUTS(fadt_control_32, {40, 4, AT(DSDT_S5)} /* DSDT */, {64, 4, 0x604} /* PM1a_CNT_BLK */,
@@ -163,6 +165,7 @@ PUTS(left_47, {36, 4, AT(FADT_DESKTOP)}, {40, 4, AT(MADT_47)});
 PUTS(left_53, {36, 4, AT(FADT_DESKTOP)}, {40, 4, AT(MADT_53)});
 PUTS(source_16, {36, 4, AT(FADT_DESKTOP)}, {40, 4, AT(MADT_SOURCE_16)});
 PUTS(sci_trigger, {36, 4, AT(FADT)}, {40, 4, AT(MADT_SCI_TRIGGER)});
+PUTS(no_blocks, {36, 4, AT(FADT_NO_BLOCKS)});
 PUTS(high_bus, {36, 4, AT(MCFG_HIGH)}, {40, 4, AT(SLIT_ONES)}, {44, 4, AT(FADT_B_32)});
 
 /* Root tables, in the order of rows_tables.h, and what they lead to. */
@@ -182,7 +185,7 @@ PUTS(high_bus, {36, 4, AT(MCFG_HIGH)}, {40, 4, AT(SLIT_ONES)}, {44, 4, AT(FADT_B
     {AT(SUM_FIRST), "RSDT", 1, 48, sum_first}, {AT(LEFT_45), "RSDT", 1, 44, left_45}, \
     {AT(LEFT_47), "RSDT", 1, 44, left_47}, {AT(LEFT_53), "RSDT", 1, 44, left_53}, \
     {AT(SOURCE_16), "RSDT", 1, 44, source_16}, {AT(SCI_TRIGGER), "RSDT", 1, 44, sci_trigger}, \
-    {AT(HIGH_BUS), "RSDT", 1, 48, high_bus}
+    {AT(HIGH_BUS), "RSDT", 1, 48, high_bus}, {AT(NO_BLOCKS), "RSDT", 1, 40, no_blocks}
 #define LAID_OF_LENGTHS \
     {AT(MADT_GICC_78), "APIC", 6, 498, madt_gicc_78}, {AT(MADT_TEXT), "APIC", 5, 52, madt_text}, \
     {AT(HPET_TEXT), "HPET", 1, 56, hpet_text}, {AT(MADT_LONG), "APIC", 5, SIZE, no_fields}, \
@@ -201,5 +204,6 @@ PUTS(high_bus, {36, 4, AT(MCFG_HIGH)}, {40, 4, AT(SLIT_ONES)}, {44, 4, AT(FADT_B
     {AT(MADT_45), "APIC", 5, 45, no_fields}, {AT(MADT_47), "APIC", 5, 47, madt_47}, \
     {AT(MADT_53), "APIC", 5, 53, madt_53}, {AT(MADT_SOURCE_16), "APIC", 5, 54, madt_source_16}, \
     {AT(MADT_SCI_TRIGGER), "APIC", 5, 54, madt_sci_trigger}, {AT(MCFG_HIGH), "MCFG", 1, 60, mcfg_high}, \
-    {AT(SLIT_ONES), "SLIT", 1, 48, slit_ones}, {AT(FADT_B_32), "FACP", 3, 244, fadt_b_32}
+    {AT(SLIT_ONES), "SLIT", 1, 48, slit_ones}, {AT(FADT_B_32), "FACP", 3, 244, fadt_b_32}, \
+    {AT(FADT_NO_BLOCKS), "FACP", 6, 276, fadt_no_blocks}
 #endif
