@@ -20,20 +20,16 @@ static void print_error(const char *name, zacpi_status status, const struct zacp
     putchar('\n');
 }
 
-/* Outputs: at the edge (edges.h), painted before each call. */
-static struct again places[3];
-static void *painted(size_t place, size_t length) {
-    return memset(again_at_edge(&places[place], length), 0xa5, length);
-}
+/* Outputs are at the edge (edges.h), painted before each call. */
 void answer_at(int where) { edge = where; }
 
 /* A list: how many items there are, and a line for each, `it`, of those that there was room for. Between the list's
  * name and its room may stand what is asked for. */
 #define LIST(NAME, TYPE, CALL, ASKED, ...) \
     do { \
-        struct TYPE *const items = (struct TYPE *)painted(0, MOST * sizeof(struct TYPE)); \
-        struct zacpi_signature *const named = (struct zacpi_signature *)painted(1, sizeof *named); \
-        size_t *const count = (size_t *)painted(2, sizeof *count); \
+        struct TYPE *const items = (struct TYPE *)painted_again(0, MOST * sizeof(struct TYPE)); \
+        struct zacpi_signature *const named = (struct zacpi_signature *)painted_again(1, sizeof *named); \
+        size_t *const count = (size_t *)painted_again(2, sizeof *count); \
         const struct TYPE *it; \
         const zacpi_status refused = CALL ASKED; \
         if (refused) print_error(NAME, refused, named); \
@@ -45,9 +41,9 @@ void answer_at(int where) { edge = where; }
 /* One item, `it`, and its line, or an error. */
 #define ONE(NAME, TYPE, CALL, ASKED, ...) \
     do { \
-        TYPE *const item = (TYPE *)painted(0, sizeof(TYPE)); \
+        TYPE *const item = (TYPE *)painted_again(0, sizeof(TYPE)); \
         const TYPE *const it = item; \
-        struct zacpi_signature *const named = (struct zacpi_signature *)painted(1, sizeof *named); \
+        struct zacpi_signature *const named = (struct zacpi_signature *)painted_again(1, sizeof *named); \
         const zacpi_status refused = CALL ASKED; \
         if (refused) print_error(NAME, refused, named); \
         else printf(NAME " " __VA_ARGS__); \

@@ -56,6 +56,11 @@ static inline void *again_at_edge(struct again *it, size_t length) {
     if (!it->area || it->most < length) it->area = pages(length), it->most = length;
     return in_pages_for(it->area, it->most, length);
 }
+/* What a call writes, painted: three outputs at most, each in pages of its own. */
+static inline void *painted_again(size_t number, size_t length) {
+    static struct again places[3];
+    return memset(again_at_edge(&places[number], length), 0xa5, length);
+}
 #define COPIED(value) at_edge(&(value), sizeof(value))
 #define PAINTED(type) ((type *)painted_at_edge(sizeof(type)))
 
@@ -66,6 +71,19 @@ static inline const struct zacpi_region *all_at_edge(const struct zacpi_region *
     if (edge == NO_EDGE) return regions;
     copies = (struct zacpi_region *)at_edge(regions, count * sizeof *regions);
     for (i = 0; i < count; i++) copies[i].bytes = (const uint8_t *)at_edge(copies[i].bytes, (size_t)copies[i].length);
+    return copies;
+}
+/* The same in pages that are used again, of at most 65536 regions. */
+static inline const struct zacpi_region *again_all_at_edge(const struct zacpi_region *regions, size_t count) {
+    static struct again list, bytes[65536];
+    struct zacpi_region *const copies = (struct zacpi_region *)again_at_edge(&list, count * sizeof *regions);
+    size_t i;
+    if (edge == NO_EDGE) return regions;
+    for (i = 0; i < count; i++) {
+        uint8_t *const to = (uint8_t *)again_at_edge(&bytes[i], (size_t)regions[i].length);
+        copies[i] = regions[i];
+        copies[i].bytes = (const uint8_t *)memcpy(to, regions[i].bytes, (size_t)regions[i].length);
+    }
     return copies;
 }
 #endif

@@ -14,19 +14,6 @@ static void to_file(void *to, const char *bytes, size_t length) { fwrite(bytes, 
 enum { MOST = 65536 };
 static struct zacpi_region regions[MOST];
 
-/* Puts the regions at the edge, and returns their list there. */
-static const struct zacpi_region *at_edges(size_t count) {
-    static struct again list, bytes[MOST];
-    struct zacpi_region *const copies = (struct zacpi_region *)again_at_edge(&list, count * sizeof *copies);
-    size_t i;
-    for (i = 0; i < count; i++) {
-        uint8_t *const to = (uint8_t *)again_at_edge(&bytes[i], (size_t)regions[i].length);
-        copies[i] = regions[i];
-        copies[i].bytes = (const uint8_t *)memcpy(to, regions[i].bytes, (size_t)regions[i].length);
-    }
-    return copies;
-}
-
 static void over(const uint8_t *image, size_t length, struct zacpi_source source, const uint8_t *revision) {
     struct printer out = {to_file, NULL}, err = {to_file, NULL};
     struct zacpi_signature named = {{0}};
@@ -34,7 +21,7 @@ static void over(const uint8_t *image, size_t length, struct zacpi_source source
     const char *unread = regions_of(image, length, regions, MOST, &source.regions_length);
     out.to = stdout;
     err.to = stderr;
-    source.regions = edge == NO_EDGE || unread ? regions : at_edges((size_t)source.regions_length);
+    source.regions = unread ? regions : again_all_at_edge(regions, (size_t)source.regions_length);
     if (unread) {
         fprintf(stderr, "refused: %s\n", unread);
         return;
@@ -54,6 +41,7 @@ int main(int argc, char **argv) {
     int taken;
     take_edge(&argc, argv);
     answer_at(edge);
+    print_lines_at(edge);
     taken = start_of(argc, argv, &source, &revision);
     if (!taken || argc != taken + 2) return 2;
     image = contents(argv[1], &length);

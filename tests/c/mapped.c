@@ -2,7 +2,8 @@
  * the whole memory of an image, and of N copies of it of which some bytes are changed and a part is missing, the same
  * each time. `bios` tries both searches.
  * mapped: whether the machines of mapped_rows.h are mapped as they have to be.
- * With `end` or `begin` as the last word, what is mapped and the lists of it are at pages that can't be touched. */
+ * With `end` or `begin` as the last word, what is mapped, the whole memory, the lists of both and what calls write are
+ * at pages that can't be touched. */
 #define _DEFAULT_SOURCE
 #include "chance.h"
 #include "image.h"
@@ -30,19 +31,29 @@ static struct said {
     struct zacpi_processor processors[64];
 } over_all, over_mapped;
 
+/* A call: its outputs are at the edge (edges.h), painted, and then kept. */
+#define ASK(n, to, CALL, ...) \
+    do { \
+        void *const at = painted_again(0, sizeof said->to); \
+        struct zacpi_signature *const named = (struct zacpi_signature *)painted_again(1, sizeof *named); \
+        size_t *const count = (size_t *)painted_again(2, sizeof *count); \
+        said->status[n] = CALL(source, __VA_ARGS__, named); \
+        memcpy(&said->to, at, sizeof said->to); \
+        said->named[n] = *named, said->count[n] = *count; \
+    } while (0)
+
 static void ask(const struct zacpi_source *source, struct said *said) {
     const struct zacpi_signature facp = {{'F', 'A', 'C', 'P'}};
-    memset(said, 0, sizeof *said);
-    said->status[0] = zacpi_open(source, &said->root, &said->named[0]);
-    said->status[1] = zacpi_get_dsdt(source, &said->dsdt, &said->named[1]);
-    said->status[2] = zacpi_get_hpet(source, &said->hpet, &said->named[2]);
-    said->status[3] = zacpi_find_table(source, facp, &said->fadt, &said->named[3]);
-    said->status[4] = zacpi_list_ssdts(source, said->ssdts, 16, &said->count[4], &said->named[4]);
-    said->status[5] = zacpi_list_tables(source, said->tables, 64, &said->count[5], &said->named[5]);
-    said->status[6] = zacpi_list_faults(source, facp, said->faults, 64, &said->count[6], &said->named[6]);
-    said->status[7] = zacpi_list_ranges(source, said->ranges, 64, &said->count[7], &said->named[7]);
-    said->status[8] = zacpi_list_missing_ranges(source, said->missing, 64, &said->count[8], &said->named[8]);
-    said->status[9] = zacpi_list_processors(source, said->processors, 64, &said->count[9], &said->named[9]);
+    ASK(0, root, zacpi_open, at);
+    ASK(1, dsdt, zacpi_get_dsdt, at);
+    ASK(2, hpet, zacpi_get_hpet, at);
+    ASK(3, fadt, zacpi_find_table, facp, at);
+    ASK(4, ssdts, zacpi_list_ssdts, at, 16, count);
+    ASK(5, tables, zacpi_list_tables, at, 64, count);
+    ASK(6, faults, zacpi_list_faults, facp, at, 64, count);
+    ASK(7, ranges, zacpi_list_ranges, at, 64, count);
+    ASK(8, missing, zacpi_list_missing_ranges, at, 64, count);
+    ASK(9, processors, zacpi_list_processors, at, 64, count);
 }
 static int same(void) { return memcmp(&over_all, &over_mapped, sizeof over_all) == 0; }
 
@@ -191,7 +202,6 @@ int main(int argc, char **argv) {
         puts("0 runs");
         return 0;
     }
-    whole.regions = there;
     runs = 1 + (records_count ? strtoul(argv[taken], NULL, 10) : 0);
     for (i = 0; i < runs; i++) {
         changed = i ? 1 + below(4) : 0;
@@ -203,6 +213,7 @@ int main(int argc, char **argv) {
             const size_t region = below(memory_count), missing = is_search(&whole) ? PAGE : (size_t)unit;
             without(region, below(memory[region].length / missing) * missing, missing);
         }
+        whole.regions = again_all_at_edge(there, there_count);
         whole.regions_length = there_count;
         agreed = agrees(&whole);
         if (agreed && whole.start == ZACPI_START_BIOS_SEARCH) {

@@ -8,10 +8,10 @@ static int is_search(const struct zacpi_source *source) {
 }
 /* Where a source starts after a search, if there is one that finds an RSDP. */
 static struct zacpi_source after_search(struct zacpi_source source) {
-    struct zacpi_rsdp rsdp;
-    if (is_search(&source) && zacpi_get_rsdp(&source, &rsdp, NULL) == ZACPI_OK) {
+    struct zacpi_rsdp *const rsdp = (struct zacpi_rsdp *)painted_again(0, sizeof *rsdp);
+    if (is_search(&source) && zacpi_get_rsdp(&source, rsdp, NULL) == ZACPI_OK) {
         source.start = ZACPI_START_RSDP;
-        source.address = rsdp.address;
+        source.address = rsdp->address;
     }
     return source;
 }
@@ -95,15 +95,14 @@ struct want {
 static int maps(const struct want *want) {
     const struct zacpi_mapper mapper = {&mapped, map_machine, unmap, want->page};
     struct zacpi_source source = {0};
-    struct zacpi_signature wanted[4];
-    struct zacpi_aml_table dsdt;
-    struct zacpi_facs facs;
-    struct zacpi_hpet_info hpet;
     const size_t length = strlen(want->names);
+    const struct zacpi_signature *const wanted = (const struct zacpi_signature *)at_edge(want->names, length);
+    struct zacpi_aml_table *const dsdt = (struct zacpi_aml_table *)painted_again(0, sizeof *dsdt);
+    struct zacpi_facs *const facs = (struct zacpi_facs *)painted_again(1, sizeof *facs);
+    struct zacpi_hpet_info *const hpet = (struct zacpi_hpet_info *)painted_again(2, sizeof *hpet);
     size_t i;
     int agreed;
     crowd(&source, want->kinds, want->facs_length);
-    memcpy(wanted, want->names, length);
     unit = want->page & (0 - want->page);
     are_kept = is_searching = 0;
     make_lists(want->capacity, want->room);
@@ -111,8 +110,8 @@ static int maps(const struct want *want) {
         !zacpi_map_wanted_tables(&mapper, &source, wanted, length / 4, regions, want->capacity, ranges, want->room);
     for (i = 0; i < source.regions_length && i < 8; i++)
         agreed &= regions[i].address == want->found[i][0] && regions[i].length == want->found[i][1];
-    agreed &= (i == 8 || !want->found[i][1]) && zacpi_get_dsdt(&source, &dsdt, NULL) == want->dsdt &&
-              zacpi_get_facs(&source, &facs, NULL) == want->facs && zacpi_get_hpet(&source, &hpet, NULL) == want->hpet;
+    agreed &= (i == 8 || !want->found[i][1]) && zacpi_get_dsdt(&source, dsdt, NULL) == want->dsdt &&
+              zacpi_get_facs(&source, facs, NULL) == want->facs && zacpi_get_hpet(&source, hpet, NULL) == want->hpet;
     zacpi_unmap_tables(&mapper, &source);
     forget();
     return agreed;
@@ -222,13 +221,13 @@ static void lay_out_search(const struct search *search) {
 static int finds(const struct search *search) {
     const struct zacpi_mapper mapper = {&mapped, map_machine, unmap, search->page};
     struct zacpi_source source = {0}, whole = {0};
-    struct zacpi_root root;
-    size_t count = 0;
+    struct zacpi_root *const root = (struct zacpi_root *)painted_again(1, sizeof *root);
+    size_t *const count = (size_t *)painted_again(2, sizeof *count);
     zacpi_status status, opened;
     int agreed;
     lay_out_search(search);
     source.start = whole.start = search->start;
-    whole.regions = there;
+    whole.regions = again_all_at_edge(there, there_count);
     whole.regions_length = there_count;
     whole = after_search(whole);
     unit = search->page;
@@ -237,12 +236,12 @@ static int finds(const struct search *search) {
     make_lists(search->capacity, search->room);
     status = zacpi_map_tables(&mapper, &source, regions, search->capacity, ranges, search->room);
     if (status || search->status) return forget(), status == search->status && !source.regions_length;
-    opened = zacpi_open(&source, &root, NULL);
-    agreed = opened == search->opened && opened == zacpi_open(&whole, &root, NULL);
+    opened = zacpi_open(&source, root, NULL);
+    agreed = opened == search->opened && opened == zacpi_open(&whole, root, NULL);
     agreed &= source.start == whole.start && source.address == whole.address;
     if (!opened) agreed &= source.start == ZACPI_START_RSDP && source.address == search->found;
     if (search->searched) agreed &= searched == search->searched;
-    if (!opened) agreed &= !zacpi_list_tables(&source, NULL, 0, &count, NULL) && count == search->tables;
+    if (!opened) agreed &= !zacpi_list_tables(&source, NULL, 0, count, NULL) && *count == search->tables;
     zacpi_unmap_tables(&mapper, &source);
     forget();
     return agreed;

@@ -2,7 +2,7 @@
  * of a table but its Length changed to each other value. No lookup may take such a table: that by its signature and
  * that of its own type refuse, nothing is written but the signature, and the list of faults has why it is passed over.
  * Prints those that fail, and how many memories were tried. The status is 0 if all hold. With `end` or `begin` each
- * region is at a page that can't be touched (edges.h).
+ * region and each output is at a page that can't be touched (edges.h).
  * cc -std=c99 -Iinclude tests/c/sweeps.c ARCHIVE */
 #define _DEFAULT_SOURCE
 #include "edges.h"
@@ -44,36 +44,30 @@ static const struct zacpi_region graphic[] = {AT(0x1000, short_rsdt), AT(0x2000,
 /* ---- Lookups ------------------------------------------------------------------------------------------ */
 
 /* The outputs of a call. They are painted before it. */
-static union {
-    uint8_t bytes[512];
-    struct zacpi_table table;
-    struct zacpi_fault faults[2];
-    struct zacpi_fixed_hardware fixed_hardware;
-    struct zacpi_gic_distributor distributor;
-    struct zacpi_hpet_info hpet;
-    struct zacpi_pci_region pci_region;
-    struct zacpi_boot_graphic graphic;
-    struct zacpi_console console;
-} out;
-static size_t count;
-static struct zacpi_signature named;
+static void *out;
+static size_t out_size, *count;
+static struct zacpi_signature *named;
 
-static void paint(void) {
-    memset(&out, PAINT, sizeof out);
-    memset(&count, PAINT, sizeof count);
-    memset(&named, PAINT, sizeof named);
+static void *paint(size_t size) {
+    count = (size_t *)painted_again(1, sizeof *count);
+    named = (struct zacpi_signature *)painted_again(2, sizeof *named);
+    out_size = size;
+    return out = painted_again(0, size);
 }
 
 /* The lookup of a type: a call that asks for a table of this type before all else. */
 typedef zacpi_status lookup(const struct zacpi_source *source);
-#define LOOKUP(name, call, ...) \
-    static zacpi_status find_##name(const struct zacpi_source *s) { return zacpi_##call(s, __VA_ARGS__, &named); }
-LOOKUP(facp, get_fixed_hardware, &out.fixed_hardware)
-LOOKUP(apic, get_gic_distributor, &out.distributor)
-LOOKUP(hpet, get_hpet, &out.hpet)
-LOOKUP(mcfg, list_pci_regions, &out.pci_region, 1, &count)
-LOOKUP(bgrt, get_boot_graphic, &out.graphic)
-LOOKUP(spcr, get_console, &out.console)
+#define LOOKUP(name, type, call, ...) \
+    static zacpi_status find_##name(const struct zacpi_source *s) { \
+        struct type *const to = (struct type *)paint(sizeof *to); \
+        return zacpi_##call(s, __VA_ARGS__, named); \
+    }
+LOOKUP(facp, zacpi_fixed_hardware, get_fixed_hardware, to)
+LOOKUP(apic, zacpi_gic_distributor, get_gic_distributor, to)
+LOOKUP(hpet, zacpi_hpet_info, get_hpet, to)
+LOOKUP(mcfg, zacpi_pci_region, list_pci_regions, to, 1, count)
+LOOKUP(bgrt, zacpi_boot_graphic, get_boot_graphic, to)
+LOOKUP(spcr, zacpi_console, get_console, to)
 
 /* A table that is swept over: region `index` of a memory. */
 static const struct swept {
@@ -117,31 +111,39 @@ static int are_painted(const void *bytes, size_t length) {
 
 /* Whether a refusal says that the table is missing, and writes nothing but its signature. */
 static int says_missing(const struct swept *table, zacpi_status status) {
-    return status == ZACPI_TABLE_MISSING && !memcmp(named.letters, table->name, 4) && are_painted(&out, sizeof out) &&
-           are_painted(&count, sizeof count);
+    return status == ZACPI_TABLE_MISSING && !memcmp(named->letters, table->name, 4) && are_painted(out, out_size) &&
+           are_painted(count, sizeof *count);
+}
+
+/* The lookup by the signature, and the list of faults, which has room for two. */
+static zacpi_status find(const struct swept *table, const struct zacpi_source *source) {
+    struct zacpi_table *const to = (struct zacpi_table *)paint(sizeof *to);
+    return zacpi_find_table(source, signature_of(table), to, named);
+}
+static const struct zacpi_fault *faults_of(const struct swept *table, const struct zacpi_source *source) {
+    struct zacpi_fault *const to = (struct zacpi_fault *)paint(2 * sizeof *to);
+    return zacpi_list_faults(source, signature_of(table), to, 2, count, named) ? NULL : to;
 }
 
 /* Whether no lookup takes the table, and it is listed with this fault alone, or not at all if this is 0. */
 static int is_passed_over(const struct swept *table, const struct zacpi_source *source, zacpi_status fault) {
-    paint();
-    if (!says_missing(table, zacpi_find_table(source, signature_of(table), &out.table, &named))) return 0;
-    paint();
-    if (!says_missing(table, table->find(source))) return 0;
-    paint();
-    if (zacpi_list_faults(source, signature_of(table), out.faults, 2, &count, &named)) return 0;
-    if (!fault) return count == 0 && are_painted(&out, sizeof out);
-    return count == 1 && out.faults[0].address == table->regions[table->index].address &&
-           out.faults[0].status == fault && are_painted(&out.faults[1], sizeof out.faults[1]);
+    const struct zacpi_fault *faults;
+    if (!says_missing(table, find(table, source)) || !says_missing(table, table->find(source))) return 0;
+    faults = faults_of(table, source);
+    if (!faults || !fault) return faults && *count == 0 && are_painted(out, out_size);
+    return *count == 1 && faults[0].address == table->regions[table->index].address && faults[0].status == fault &&
+           are_painted(&faults[1], sizeof faults[1]);
 }
 
 /* Whether each lookup takes the table as it is, and passes over nothing: else a refusal would show nothing. */
 static int is_found(const struct swept *table) {
     const struct zacpi_source source = {table->regions, table->regions_length, 0x1000, ZACPI_START_RSDT, 0};
     const struct zacpi_region *region = &table->regions[table->index];
-    if (zacpi_find_table(&source, signature_of(table), &out.table, &named)) return 0;
-    if (out.table.address != region->address || out.table.length != region->length) return 0;
-    if (table->find(&source) != table->found) return 0;
-    return !zacpi_list_faults(&source, signature_of(table), out.faults, 2, &count, &named) && count == 0;
+    const struct zacpi_table *found;
+    if (find(table, &source)) return 0;
+    found = (const struct zacpi_table *)out;
+    if (found->address != region->address || found->length != region->length) return 0;
+    return table->find(&source) == table->found && faults_of(table, &source) && *count == 0;
 }
 
 /* The table in two regions, cut at each place. */
