@@ -22,8 +22,11 @@ class Edit(NamedTuple):
     line: int  # from 0
     kind: str
     old: str
-    new: str
+    new: str  # the line as it would stand there
     text: str  # the line with both, and CHOSEN
+
+    def __str__(self):
+        return f'{self.line + 1}: {self.kind}: {self.old} => {self.new}'
 
 
 def of_operators(text):
@@ -66,21 +69,23 @@ def of_assignment(line, types):
     """A number or a place that is declared with its value, or a variable that is set."""
     found = re.match(rf'({TYPES}) (\w+) = (.*);$', line)
     if found:
-        types[found[2]] = found[1]
+        kept, to = found[1], f'{found[1]} {found[2]} ='
+        types[found[2]] = kept
         for kind, other in of_value(found[3]):
-            yield kind, other, f'{found[1]} {found[2]} = {CHOSEN} ? ({found[1]})({other}) : ({found[1]})({found[3]});'
+            yield kind, f'{to} {other};', f'{to} {CHOSEN} ? ({kept})({other}) : ({kept})({found[3]});'
         return
     found = re.match(r'u8 \*(\w+) = (.*);$', line)
     if found:
+        to = f'u8 *{found[1]} ='
         for _, other in of_value(found[2]):
-            yield 'offset', other, f'u8 *{found[1]} = {CHOSEN} ? ({other}) : ({found[2]});'
+            yield 'offset', f'{to} {other};', f'{to} {CHOSEN} ? ({other}) : ({found[2]});'
         return
     found = re.match(r'(\w+) = (.*);$', line)
     if found and found[1] in types:
-        kept = types[found[1]]
+        kept, to = types[found[1]], f'{found[1]} ='
         for kind, other in of_value(found[2]):
-            yield kind, other, f'{found[1]} = {CHOSEN} ? ({kept})({other}) : ({kept})({found[2]});'
-        yield 'left out', '', f'if (!{CHOSEN}) {line}'
+            yield kind, f'{to} {other};', f'{to} {CHOSEN} ? ({kept})({other}) : ({kept})({found[2]});'
+        yield 'left out', ';', f'if (!{CHOSEN}) {line}'
 
 
 def of_condition(line, _):
@@ -88,36 +93,36 @@ def of_condition(line, _):
     if found:
         negated = ('negated', f'!({found[1]})')
         for kind, other in [*of_value(found[1]), negated]:
-            yield kind, other, f'if ({CHOSEN} ? ({other}) : ({found[1]})) {found[2]}'
+            yield kind, f'if ({other}) {found[2]}', f'if ({CHOSEN} ? ({other}) : ({found[1]})) {found[2]}'
         if found[2] != '{':
-            yield 'left out', '', f'if (!{CHOSEN} && ({found[1]})) {found[2]}'
+            yield 'left out', ';', f'if (!{CHOSEN} && ({found[1]})) {found[2]}'
     found = re.match(r'switch \((.*)\) \{$', line)
     if found:
         for kind, other in [*of_value(found[1]), ('switch by one', f'({found[1]}) + 1')]:
-            yield kind, other, f'switch ({CHOSEN} ? (u64)({other}) : (u64)({found[1]})) {{'
+            both = f'{CHOSEN} ? (u64)({other}) : (u64)({found[1]})'
+            yield kind, f'switch ({other}) {{', f'switch ({both}) {{'
 
 
 def of_effect(line, _):
     """What is stored, called or returned."""
-    found = re.match(r'(?:AT\(.*\)|\w+)\[\d+\] = (.*);$', line)
+    found = re.match(r'((?:AT\(.*\)|\w+)\[\d+\] =) (.*);$', line)
     if found:
-        to = line[:line.index(' = ')]
-        for kind, other in of_value(found[1]):
-            yield kind, other, f'{to} = {CHOSEN} ? (u8)({other}) : (u8)({found[1]});'
+        for kind, other in of_value(found[2]):
+            yield kind, f'{found[1]} {other};', f'{found[1]} {CHOSEN} ? (u8)({other}) : (u8)({found[2]});'
     called = re.match(r'(?!if|switch|return|MARK|UNREACHABLE|while|for)\w+\(.*\);$', line)
     if called:
         for kind, other in of_value(line[:-1]):
-            yield kind, other, f'if ({CHOSEN}) {other}; else {line}'
+            yield kind, f'{other};', f'if ({CHOSEN}) {other}; else {line}'
     stored = re.match(r'store(16|32|64)(u?\(.*;)$', line)
     if stored:
         other = f'store{STORES[stored[1]]}{stored[2]}'
         yield 'store width', other, f'if ({CHOSEN}) {other} else {line}'
     if found or called:
-        yield 'left out', '', f'if (!{CHOSEN}) {line}'
+        yield 'left out', ';', f'if (!{CHOSEN}) {line}'
     found = re.match(r'return (.+);$', line)
     if found:
         for kind, other in of_value(found[1]):
-            yield kind, other, f'return {CHOSEN} ? ({other}) : ({found[1]});'
+            yield kind, f'return {other};', f'return {CHOSEN} ? ({other}) : ({found[1]});'
 
 
 def edits_of(lines):
@@ -156,27 +161,41 @@ def choose(edits, count, seed):
     return chosen
 
 
-# Number 0 is the file as it is. With EDIT_STOPS the program ends where the edit is, so that it is seen whether anything
-# comes there.
-DECLARED = '''extern int chosen_edit, edit_stops;
-#define IS_CHOSEN(n) (chosen_edit == (n) && (!edit_stops || (__builtin_trap(), 0)))
+# Number 0 is the file as it is. The file that EDITS_REACHED names gets a byte for each edit, which becomes 1 when
+# anything comes to its line.
+DECLARED = '''extern int chosen_edit;
+extern unsigned char *reached_edits;
+#define IS_CHOSEN(n) (reached_edits[n] = 1, chosen_edit == (n))
 '''
-CHOOSES = '''#include <stdlib.h>
-int chosen_edit, edit_stops;
+CHOOSES = '''#include <fcntl.h>
+#include <stdlib.h>
+#include <sys/mman.h>
+#include <unistd.h>
+static unsigned char for_none[MOST + 1];
+int chosen_edit;
+unsigned char *reached_edits = for_none;
 __attribute__((__constructor__)) static void choose(void) {
-    const char *text = getenv("EDIT");
+    const char *text = getenv("EDIT"), *name = getenv("EDITS_REACHED");
+    int file;
     chosen_edit = text ? atoi(text) : 0;
-    edit_stops = getenv("EDIT_STOPS") != NULL;
+    if (!name) return;
+    file = open(name, O_RDWR | O_CREAT, 0600);
+    if (file < 0 || ftruncate(file, sizeof for_none)) abort();
+    reached_edits = mmap(NULL, sizeof for_none, PROT_READ | PROT_WRITE, MAP_SHARED, file, 0);
+    if (reached_edits == MAP_FAILED) abort();
 }
 '''
+
+
+def indent_of(line):
+    return line[:len(line) - len(line.lstrip())]
 
 
 def with_all(lines, chosen):
     """The file that has each of them, by numbers from 1."""
     made = list(lines)
     for number, edit in enumerate(chosen, 1):
-        indent = lines[edit.line][:len(lines[edit.line]) - len(lines[edit.line].lstrip())]
-        made[edit.line] = indent + edit.text.replace('@', str(number))
+        made[edit.line] = indent_of(lines[edit.line]) + edit.text.replace('@', str(number))
     place = next(place for place, line in enumerate(made) if line.startswith('typedef uintptr_t uptr'))
     made[place] += '\n' + DECLARED.rstrip('\n')
     return '\n'.join(made)
@@ -184,9 +203,7 @@ def with_all(lines, chosen):
 
 def with_one(lines, edit):
     """The lines with one edit."""
-    made = list(lines)
-    made[edit.line] = edit.text.replace(CHOSEN, '1')
-    return made
+    return [*lines[:edit.line], indent_of(lines[edit.line]) + edit.new, *lines[edit.line + 1:]]
 
 
 def functions_of(lines):
