@@ -1,8 +1,8 @@
 /* Sweeps over tables laid out by hand: each table's memory as two regions that touch, cut at each place, and each byte
- * of a table but its Length changed to each other value. No lookup may take such a table: that by its signature and
- * that of its own type refuse, nothing is written but the signature, and the list of faults has why it is passed over.
- * Prints those that fail, and how many memories were tried. The status is 0 if all hold. With `end` or `begin` each
- * region and each output is at a page that can't be touched (edges.h).
+ * of a table but its Length changed to each other value, the ids also where the sum is accepted. No lookup may take such
+ * a table: that by its signature and that of its own type refuse, nothing is written but the signature, and the list of
+ * faults has why it is passed over. Prints those that fail, and how many memories were tried. The status is 0 if all
+ * hold. With `end` or `begin` each region and each output is at a page that can't be touched (edges.h).
  * cc -std=c99 -Iinclude tests/c/sweeps.c ARCHIVE */
 #define _DEFAULT_SOURCE
 #include "edges.h"
@@ -68,6 +68,7 @@ LOOKUP(hpet, zacpi_hpet_info, get_hpet, to)
 LOOKUP(mcfg, zacpi_pci_region, list_pci_regions, to, 1, count)
 LOOKUP(bgrt, zacpi_boot_graphic, get_boot_graphic, to)
 LOOKUP(spcr, zacpi_console, get_console, to)
+LOOKUP(local_apic, zacpi_local_apic, get_local_apic, to)
 
 /* A table that is swept over: region `index` of a memory. */
 static const struct swept {
@@ -80,7 +81,7 @@ static const struct swept {
     {"FACP", each_type, 9, 1, find_facp, ZACPI_OK}, {"APIC", each_type, 9, 2, find_apic, ZACPI_NO_GIC},
     {"HPET", each_type, 9, 3, find_hpet, ZACPI_OK}, {"MCFG", each_type, 9, 4, find_mcfg, ZACPI_OK},
     {"BGRT", each_type, 9, 6, find_bgrt, ZACPI_OK}, {"SPCR", each_type, 9, 7, find_spcr, ZACPI_OK},
-    {"BGRT", graphic, 2, 1, find_bgrt, ZACPI_OK},
+    {"BGRT", graphic, 2, 1, find_bgrt, ZACPI_OK},   {"APIC", each_type, 9, 2, find_local_apic, ZACPI_OK},
 };
 
 /* ---- Sweeps ------------------------------------------------------------------------------------------- */
@@ -174,22 +175,48 @@ static zacpi_status fault_of(size_t offset, uint8_t value) {
     return ZACPI_SDT_INVALID_CHECKSUM;
 }
 
+/* The bytes of the table, and its regions with these. */
+static uint8_t *to_be_changed(const struct swept *table, struct zacpi_region *regions) {
+    const struct zacpi_region *region = &table->regions[table->index];
+    uint8_t *bytes = (uint8_t *)at_edge(region->bytes, region->length);
+    memcpy(regions, all_at_edge(table->regions, table->regions_length), table->regions_length * sizeof *regions);
+    regions[table->index].bytes = bytes;
+    return bytes;
+}
+
 /* The table with another value in one byte, each byte but those of Length and each other value. */
 static void sweep_bytes(const struct swept *table) {
     struct zacpi_region regions[9];
     const struct zacpi_source source = {regions, table->regions_length, 0x1000, ZACPI_START_RSDT, 0};
     const struct zacpi_region *region = &table->regions[table->index];
-    uint8_t *bytes = (uint8_t *)at_edge(region->bytes, region->length);
+    uint8_t *bytes = to_be_changed(table, regions);
     size_t offset;
     unsigned bits;
-    memcpy(regions, all_at_edge(table->regions, table->regions_length), table->regions_length * sizeof *regions);
-    regions[table->index].bytes = bytes;
     for (offset = 0; offset < region->length; offset++) {
         if (LENGTH <= offset && offset < REVISION) continue;
         for (bits = 1; bits < 256; bits++) {
             bytes[offset] ^= (uint8_t)bits;
             result(is_passed_over(table, &source, fault_of(offset, bytes[offset])), table, "byte", offset,
                    bytes[offset]);
+            bytes[offset] ^= (uint8_t)bits;
+        }
+    }
+}
+
+/* The ids with another value in one byte, where the sum isn't looked at: ASCII is accepted. */
+static void sweep_ids(const struct swept *table) {
+    struct zacpi_region regions[9];
+    const struct zacpi_source source = {regions, table->regions_length, 0x1000, ZACPI_START_RSDT, ZACPI_ACCEPT_SUMS};
+    uint8_t *bytes = to_be_changed(table, regions);
+    size_t offset;
+    unsigned bits;
+    for (offset = OEMID; offset < OEM_REVISION; offset++) {
+        for (bits = 1; bits < 256; bits++) {
+            int holds;
+            bytes[offset] ^= (uint8_t)bits;
+            if (bytes[offset] < 0x80) holds = !find(table, &source) && table->find(&source) == table->found;
+            else holds = is_passed_over(table, &source, fault_of(offset, bytes[offset]));
+            result(holds, table, "id's byte", offset, bytes[offset]);
             bytes[offset] ^= (uint8_t)bits;
         }
     }
@@ -202,6 +229,7 @@ int main(int argc, char **argv) {
         result(is_found(table), table, "as it is", 0, 0);
         sweep_cuts(table);
         sweep_bytes(table);
+        sweep_ids(table);
     }
     printf("%lu memories\n", tried);
     return failed ? 1 : 0;
