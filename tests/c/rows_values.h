@@ -1,0 +1,84 @@
+/* Rows over tables in memory of their own: structures beyond a count, entries that are too short, a table above 4 GiB,
+ * and an RSDP in the second area that is searched. */
+#ifndef ROWS_VALUES_H
+#define ROWS_VALUES_H
+
+#define OWN 0x70000000u
+#define OWN_GTDT (OWN + 0x100)
+#define OWN_MADT 0x100000000u
+enum { OWN_SIZE = 0x300, OWN_MADT_SIZE = 52, OWN_SRAT_SIZE = 0x100 };
+static uint8_t own[OWN_SIZE], own_madt[OWN_MADT_SIZE], own_ebda[EBDA_SIZE];
+static const struct zacpi_region own_regions[] = {{OWN, own, OWN_SIZE}, {OWN_MADT, own_madt, OWN_MADT_SIZE}};
+static const struct zacpi_region own_search[] = {{0x40e, word, 2}, {EBDA, own_ebda, EBDA_SIZE},
+                                                 {BIOS, zeros, BIOS_SIZE}};
+
+PUTS(own_xsdt, {36, 8, OWN_GTDT}, {44, 8, OWN_MADT});
+/* Of two GT Blocks and two watchdogs the first of each counts (section 5.2.25). */
+#define GT_BLOCK(at, address, number, interrupt) \
+    {(at) + 1, 2, 60} /* Length */, {(at) + 4, 8, address} /* GT Block Physical Address */, \
+    {(at) + 12, 4, 1} /* GT Block Timer Count */, {(at) + 16, 4, 20} /* GT Block Timer Offset */, \
+    {(at) + 20, 1, number} /* GT Frame Number */, {(at) + 20 + 4, 8, (address) + 0x1000} /* CntBaseX */, \
+    {(at) + 20 + 20, 4, interrupt}, {(at) + 20 + 24, 4, 1} /* GTx Physical Timer GSIV, Flags: edge, active high */
+#define WATCHDOG(at, interrupt) \
+    {(at), 1, 1} /* Type: Arm Generic Watchdog */, {(at) + 1, 2, 28} /* Length */, \
+    {(at) + 20, 4, interrupt}, {(at) + 24, 4, 1} /* Watchdog Timer GSIV, Flags: edge, active high */
+PUTS(own_gtdt, {88, 4, 2} /* Platform Timer Count */, {92, 4, 96} /* Platform Timer Offset */,
+     GT_BLOCK(96, 0x7000, 1, 92), WATCHDOG(156, 60), GT_BLOCK(184, 0xa000, 2, 93), WATCHDOG(244, 61));
+/* Local Interrupt Controller Address, Flags: PCAT_COMPAT. */
+PUTS(own_apic, {36, 4, 0xfee01000}, {40, 4, 1}, {44, 2, HEADER(0, 8)}, BAD_SUM);
+static const struct table own_tables[] = {{OWN, "XSDT", 1, 52, own_xsdt}, {OWN_GTDT, "GTDT", 2, 272, own_gtdt}},
+                          own_high = {OWN_MADT, "APIC", 4, OWN_MADT_SIZE, own_apic};
+
+static const struct row own_rows[] = {
+    GOOD(list_gt_frames, 0, NULL, NO, 1, 0x7000, 0x8000, 0, 92, 0, 1, 1, 1, 1, 3, 0, 0),
+    GOOD(list_watchdogs, 0, NULL, NO, 1, 0, 0, 60, 1, 1, 0),
+    REFUSED(get_local_apic, 0, NULL, NO, ZACPI_TABLE_MISSING, "APIC")},
+    own_accepted = GOOD(get_local_apic, 0, NULL, NO, 1, 0xfee01000, 1),
+    /* Length of the RSDP at 0x3e0 reaches a byte past the area and the 16 bytes after it. */
+    own_searched = GOOD(list_missing_ranges, 0, NULL, NO, 1, 0x903e0, 0x31),
+    own_cut = REFUSED(domain_of_address, 0, NULL, A(0x5000), ZACPI_NUMA_INVALID_ENTRY_LENGTH, NULL);
+
+static void check_own(const struct row *row, const struct zacpi_source *source, uint32_t accepted) {
+    if (!is_there(row->call->name)) return;
+    own_source = source;
+    accept = accepted;
+    check_rooms(row);
+    accept = 0;
+    own_source = NULL;
+}
+
+/* An entry of the SRAT that is a byte too short for its Type, and after it one of memory from 0x5000 on. */
+static void check_short_entries(void) {
+    static const uint8_t least[] = {16, 40, 24, 18, 12, 32, 32}; /* by Type (section 5.2.16) */
+    static uint8_t bytes[sizeof least][OWN_SRAT_SIZE];
+    static struct zacpi_region regions[sizeof least];
+    unsigned i;
+    for (i = 0; i < sizeof least; i++) {
+        const unsigned next = 48 + least[i] - 1u;
+        const struct zacpi_source source = {&regions[i], 1, OWN, ZACPI_START_RSDT, 0};
+        const struct put root[] = {{36, 4, OWN + 40}, {0, 0, 0}};
+        const struct put puts[] = {{48, 2, HEADER(i, least[i] - 1u)}, {next, 2, HEADER(1, 40)},
+                                   {next + 8, 8, 0x5000} /* Base Address */, {next + 16, 8, 0x1000} /* Length */,
+                                   {next + 28, 4, 1} /* Flags: Enabled */, {0, 0, 0}};
+        const struct table rsdt = {OWN, "RSDT", 1, 40, root}, srat = {OWN + 40, "SRAT", 3, next + 40, puts};
+        regions[i].address = OWN, regions[i].bytes = bytes[i], regions[i].length = 40 + next + 40;
+        lay_out_at(bytes[i], 40, &rsdt);
+        lay_out_at(bytes[i] + 40, next + 40, &srat);
+        check_own(&own_cut, &source, 0);
+    }
+}
+
+static void check_values(void) {
+    const struct zacpi_source source = {own_regions, 2, OWN, ZACPI_START_XSDT, 0};
+    const struct zacpi_source search = {own_search, 3, 0, ZACPI_START_BIOS_SEARCH, 0};
+    size_t i;
+    for (i = 0; i < sizeof own_tables / sizeof *own_tables; i++)
+        lay_out_at(own + (own_tables[i].address - OWN), own_tables[i].length, &own_tables[i]);
+    lay_out_at(own_madt, OWN_MADT_SIZE, &own_high);
+    memcpy(own_ebda + 0x3e0, ebda + 0x3e0, 36);
+    for (i = 0; i < sizeof own_rows / sizeof *own_rows; i++) check_own(&own_rows[i], &source, 0);
+    check_own(&own_accepted, &source, ZACPI_ACCEPT_SUMS);
+    check_own(&own_searched, &search, 0);
+    check_short_entries();
+}
+#endif
