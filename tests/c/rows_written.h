@@ -245,6 +245,8 @@ static const uint8_t bodiless_bytes[] = {HEAD('O', 'E', 'M', '9', 36, 255, 0x92)
 #include "rows_codes.h"
 #include "rows_flags.h"
 #include "rows_texts.h"
+#include "rows_ports.h"
+#include "rows_sizes.h"
 
 /* ---- Rows ----------------------------------------------------------------------------------------------- */
 
@@ -342,8 +344,8 @@ static zacpi_status a_facs(uint8_t *to, size_t room, size_t *length) {
 }
 
 #include "rows_read.h"
-#include "rows_long.h"
 #include "rows_more.h"
+#include "rows_long.h"
 
 /* What is written, or the error, whatever room there is; and the status if a name isn't UTF-8: that error comes after
  * those of what one table is to say, and of a machine after that of bytes that aren't a table. A FACS has no names. */
@@ -454,6 +456,8 @@ static void check_all_written(void) {
     check_facs_places();
     check_bad_tables();
     check_too_long();
+    check_ports();
+    check_machine_lengths();
     /* What is written, read again: a part that writes alone has no call for it. */
     if (is_there("open")) check_all_codes(), check_flags(), check_rintc_lengths(), check_texts(), check_all_read();
 }
