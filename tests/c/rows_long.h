@@ -18,8 +18,8 @@ LONG(a_long_xsdt, xsdt, (const uint64_t *)(const void *)untouched, (size_t)((FOU
 LONG(a_long_slit, slit, 0x10000, untouched, (size_t)FOUR_GIB)
 
 
-/* Lists of as few items that the table is too long: of 2^32 - 52 bytes of I/O APICs, 12 each, after 52 bytes, and so on:
- * a header, the fields before the entries, the entries of one processor, and as many as there are. */
+/* Lists of as few items that the table is too long: after so many bytes, which are a header, the fields before the
+ * entries, and the entries of one processor, as many of so many bytes as make 2^32. */
 #define LONG_LIST(verb, call, type, base, items, before, size) \
     static zacpi_status verb(size_t *length) { \
         struct type contents = base; \

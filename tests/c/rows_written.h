@@ -247,6 +247,7 @@ static const uint8_t bodiless_bytes[] = {HEAD('O', 'E', 'M', '9', 36, 255, 0x92)
 #include "rows_texts.h"
 #include "rows_ports.h"
 #include "rows_sizes.h"
+#include "rows_entries.h"
 
 /* ---- Rows ----------------------------------------------------------------------------------------------- */
 
@@ -458,6 +459,7 @@ static void check_all_written(void) {
     check_too_long();
     check_ports();
     check_machine_lengths();
+    check_entries_written();
     /* What is written, read again: a part that writes alone has no call for it. */
     if (is_there("open")) check_all_codes(), check_flags(), check_rintc_lengths(), check_texts(), check_all_read();
 }
