@@ -79,6 +79,25 @@ static void check_event_lengths(uint8_t bytes_long) {
     check_bytes_of(got, ZACPI_OK, bytes, FADT_SIZE, counted, "events", 0, bytes_long);
 }
 
+/* A block of which no byte is there: PM1b's, PM2's, and each block of events (section 5.2.9). */
+static void check_no_byte(unsigned width) {
+    size_t which;
+    for (which = 0; which < 5; which++) {
+        struct zacpi_fixed_hardware given = pc_fadt;
+        size_t *counted = paint_size(&out_count);
+        const struct zacpi_register block = PORT(0x670, (uint8_t)width, 1);
+        zacpi_status got;
+        if (which == 0) given.pm1b_event = block;
+        else if (which == 1) given.pm1b_control = block;
+        else if (which == 2) given.pm2_control = block;
+        else if (which == 3) given.gpe0_block.byte_length = 0;
+        else given.gpe1_block.byte_length = 0;
+        got = zacpi_write_fadt(ids, &given, (uint8_t *)paint(&out, FADT_SIZE), FADT_SIZE, counted);
+        result(got == ZACPI_BAD_REGISTER && *counted == UNCOUNTED && is_left_but(&out, 0), "no byte", (int)which, width,
+               got);
+    }
+}
+
 /* ---- AML that begins with a Signature, and has a part of a Length that isn't its own ---------------------------- */
 
 static void check_front(size_t length) {
@@ -120,6 +139,7 @@ static void check_entries_written(void) {
         for (k = 0; k < sizeof tried; k++) check_inti(tried[i], tried[k]);
     for (i = 0; i <= 3; i++) check_giccs(i);
     for (i = 1; i <= 255; i++) check_event_lengths((uint8_t)i);
+    for (i = 0; i < 8; i++) check_no_byte((unsigned)i);
     for (i = 0; i <= 8; i++) check_front(i);
     for (i = 0; i < 8; i++) check_names((unsigned)i);
 }
