@@ -3,9 +3,10 @@
 parameters and calls have.
 
 A function is a graph of steps (validate_c.py). z3 is given, for each step, from which ones it is come to and under what
-condition, and what each variable has there; then it shows that a condition can't have a side where it is come to. Where
-a loop begins, what is changed in it has unknown values. Memory is a row of stores. An array of the function whose
-address nobody else was given is apart from all other memory; a call changes all the rest."""
+condition, and what each variable has there; then it shows that a condition can't have a side where it is come to. A
+loop that counts to a number is gone through round by round; where another begins, what is changed in it has unknown
+values. Memory is a row of stores. An array of the function whose address nobody else was given is apart from all other
+memory; a call changes all the rest."""
 import re
 
 import z3
@@ -18,15 +19,17 @@ from validate_terms import POINTER, Refused, number, simple
 from validate_values import C, Value, plain, to, truth, usual, width_of
 
 EFFORT = 3_000_000  # what z3 may spend on one question, which doesn't depend on the machine
+MOST_ROUNDS = 32  # of a loop that is gone through round by round
 CHANGES = re.compile(r'\b(?:store|memcpy|memset|memmove|copy|copy_most|copy_few|move|fill)\w*\(|\] = ')
 
 
 class Function(C):
-    """A function as a graph. `sides` has of each condition, by the line where it begins, what z3 is to be asked."""
+    """A function as a graph. `sides` has for each step, and by the line where a condition begins, what z3 is to be
+    asked of its sides; `switches` has the same of arms, by the line of the switch, each time that it is come to."""
 
     def __init__(self, text, numbers, static, heads):
         self.steps, self.static, self.heads, self.known = Steps(text, numbers), static, heads, heads
-        self.facts, self.sides, self.switches, self.context = [], {}, {}, []
+        self.facts, self.sides, self.switches, self.context, self.of_step = [], {}, {}, [], {}
         self.reach, self.made, self.placed = z3.BoolVal(True), 0, {}
 
     # What C computes, with unknown values where nothing is known
@@ -84,7 +87,7 @@ class Function(C):
         """Where the sides of a condition go, which come before those of conditions in it. A copy's length is read
         twice."""
         if node not in self.placed:
-            place = self.sides.setdefault(self.line_of(node), [])
+            place = self.of_step.setdefault(self.line_of(node), [])
             self.placed[node] = place, len(place)
             place += [None, None]
         return self.placed[node]
@@ -106,23 +109,111 @@ class Function(C):
 
     def explore(self):
         """Goes through the steps, each after all that lead to it, and gathers what z3 is told and asked."""
-        order, back = self.ordered()
+        self.order, self.loops = self.ordered()
+        self.live = self.read_later()
         given = {one.name: self.fresh(type_of(one.type), f'given {one.name}') for one in self.steps.parameters}
         begin = State(given, Memory('begin', None, frozenset()), self.static)
-        arrivals = {0: [(z3.BoolVal(True), begin)]}
+        self.through(self.order, None, {0: [(z3.BoolVal(True), begin)]})
+
+    def through(self, order, head, arrivals):
+        """Goes through some steps, of which the first may be where a loop begins that has its round here. What is left
+        of `arrivals` is outside of them, or at the begin of the next round."""
+        inside, done = set(order), set()
         for at in order:
-            if at not in arrivals:
+            if at not in arrivals or at in done:
                 continue
+            if at in self.loops and at != head and self.counts(at):
+                left = self.rounds(at, arrivals[at])
+                if left is not None:
+                    done |= self.loops[at]
+                    del arrivals[at]
+                    for target, edges in left.items():
+                        if not (target in inside and target != head and at in self.loops.get(target, ())):
+                            arrivals.setdefault(target, []).extend(edges)
+                    continue
             self.reach, state = self.joined(at, arrivals.pop(at))
-            if at in back:
-                self.forget(state, back[at], self.steps.scopes[at])
-            for target, condition in self.step(state, at):
-                if (at, target) in self.backward:
+            if at in self.loops and at != head:
+                self.forget(state, self.loops[at], self.live[at])
+            for target, condition in self.taken(state, at):
+                if (at, target) in self.backward and target in inside and target != head:
                     continue
                 edge = simple(z3.And(self.reach, condition))
                 if not z3.is_false(edge):
                     copy = State(dict(state.values), state.memory, self.static)
                     arrivals.setdefault(target, []).append((edge, copy))
+
+    def read_later(self):
+        """For each step the variables that it or a later one reads before they are set."""
+        live, changed = {at: frozenset() for at in self.order}, True
+        words = {at: self.words_of(self.steps.steps[at]) for at in self.order}
+        while changed:
+            changed = False
+            for at in reversed(self.order):
+                later = frozenset().union(*(live[target] for target in self.targets(at)))
+                mine = later - words[at][1] | words[at][0]
+                changed |= mine != live[at]
+                live[at] = mine
+        return live
+
+    @staticmethod
+    def words_of(step):
+        """The variables that a step reads, and those that it sets."""
+        is_set, read, left = frozenset(), set(), [one for one in step.words if isinstance(one, c_ast.Node)]
+        if step.what == 'set':
+            is_set = frozenset([step.words[0]])
+        elif left and isinstance(left[0], c_ast.Assignment) and isinstance(left[0].lvalue, c_ast.ID):
+            is_set, left = frozenset([left[0].lvalue.name]), [left[0].rvalue]
+        while left:
+            node = left.pop()
+            if isinstance(node, c_ast.ID):
+                read.add(node.name)
+            left += [child for _, child in node.children()]
+        return frozenset(read), is_set
+
+    def counts(self, head):
+        """Whether a loop seems to count to a number: it is left by a comparison with one."""
+        for at in self.loops[head]:
+            step = self.steps.steps[at]
+            if step.what == 'if' and isinstance(step.words[0], c_ast.BinaryOp) and step.words[0].op in ('==', '!='):
+                left, right = step.words[0].left, step.words[0].right
+                sides = [self.steps.labels[label] for label in step.words[1:]]
+                if isinstance(left, c_ast.ID) and isinstance(right, c_ast.Constant) and self.leads_back(sides, head):
+                    return True
+        return False
+
+    def leads_back(self, sides, head):
+        """Whether one of two sides goes straight to the begin of a loop: steps that set variables are all between."""
+        for at in sides:
+            while self.steps.steps[at].what in ('set', 'do', 'end', 'goto') and at != head:
+                at = self.targets(at)[0]
+            if at == head:
+                return True
+        return False
+
+    def rounds(self, head, entering):
+        """Goes through a loop round by round, and returns where that leads outside; or None if it doesn't end."""
+        kept = dict(self.sides), {line: list(visits) for line, visits in self.switches.items()}
+        body = [at for at in self.order if at in self.loops[head]]
+        leaving = {}
+        for _ in range(MOST_ROUNDS):
+            arrivals = {head: entering}
+            self.through(body, head, arrivals)
+            entering = arrivals.pop(head, [])
+            for target, edges in arrivals.items():
+                leaving.setdefault(target, []).extend(edges)
+            if not entering:
+                return leaving
+        self.sides, self.switches = kept
+        return None
+
+    def taken(self, state, at):
+        """Does a step, keeps what z3 is to be asked of it, and returns where it leads, and when."""
+        self.of_step, self.placed = {}, {}
+        targets = list(self.step(state, at))
+        for line, sides in self.of_step.items():
+            before = self.sides.get((line, at))
+            self.sides[line, at] = [z3.Or(*both) for both in zip(before, sides)] if before else sides
+        return targets
 
     def targets(self, at):
         step = self.steps.steps[at]
@@ -175,7 +266,7 @@ class Function(C):
         memories = [(edge, state.memory) for edge, state in edges]
         escaped = frozenset().union(*(memory.escaped for _, memory in memories))
         values = {}
-        for name in set.intersection(*(set(state.values) for _, state in edges)) & set(self.steps.scopes[at]):
+        for name in set.intersection(*(set(state.values) for _, state in edges)) & self.live[at]:
             values[name] = self.joined_value(name, [(edge, state.values[name]) for edge, state in edges])
             if values[name] and not isinstance(values[name].term, tuple) and values[name].term.num_args() == 0:
                 for _, state in edges:
@@ -269,7 +360,8 @@ class Function(C):
             every = [(label, simple(value.term == one)) for one, label in step.words[1]]
             otherwise = simple(z3.Not(z3.Or(*(one for _, one in every))))
             numbers = [one for one, _ in step.words[1]]
-            self.switches[step.line] = self.reach, dict(zip(numbers, (one for _, one in every))), otherwise
+            cases = dict(zip(numbers, (one for _, one in every)))
+            self.switches.setdefault(step.line, []).append((self.reach, cases, otherwise))
             by = {}
             for label, one in every:
                 by.setdefault(labels[label], []).append(one)
@@ -325,7 +417,10 @@ class Ways:
         for line, column in sorted(places):
             by_line.setdefault(line, []).append(column)
         at_first = TYPES.count('\n') + 1
-        for line, sides in function.sides.items():
+        sides_of = {}
+        for (line, _), sides in sorted(function.sides.items(), key=lambda item: item[0]):
+            sides_of.setdefault(line, []).extend(sides)
+        for line, sides in sides_of.items():
             columns = by_line.get(numbers[line - at_first], [])
             if len(sides) == 2 * len(columns):
                 for i, column in enumerate(columns):
@@ -333,9 +428,9 @@ class Ways:
                     asked[numbers[line - at_first], column, False] = sides[2 * i + 1]
         for line, switch, labels, is_default in arms:
             if switch in function.switches:
-                reach, cases, otherwise = function.switches[switch]
-                some = [cases[one] for one in labels] + [otherwise] * is_default
-                asked[line, 0] = z3.And(reach, z3.Or(*some))
+                asked[line, 0] = z3.Or(*(
+                    z3.And(reach, z3.Or(*[cases[one] for one in labels], *[otherwise] * is_default))
+                    for reach, cases, otherwise in function.switches[switch]))
         solver = z3.SolverFor('QF_UFBV')
         solver.set('rlimit', EFFORT)
         solver.add(*function.facts)
