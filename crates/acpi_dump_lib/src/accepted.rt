@@ -4,7 +4,7 @@ use crate::arguments::Request;
 use acpi_dump_check::rules::rules;
 use acpi_dump_input::entries::{Entry, own_signature};
 use acpi_dump_input::errors::{Log, Stop, fail, tell};
-use acpi_dump_input::judgement::Judgement;
+use acpi_dump_input::judgement::{Finding, Judgement};
 use acpi_dump_input::sources::{Sources, reason_of};
 use acpi_dump_walk::fields::print_text;
 use acpi_dump_walk::language::next_word;
@@ -72,16 +72,16 @@ impl Line<'_> {
 
 /// The findings of an earlier check that aren't found yet.
 #[derive(Drop)]
-struct Earlier<'e> {
-    findings: &'e [Value<'e>],
+struct Earlier<'e, 'v> {
+    findings: &'e [Value<'v>],
     are_found: Vec<bool>,
     /// The number of the one after the last that was found: the next comes mostly there.
     next: usize,
 }
 
-impl<'e> Earlier<'e> {
+impl<'e, 'v> Earlier<'e, 'v> {
     /// No finding is found yet.
-    fn new(alloc: Global, findings: &'e [Value<'e>]) -> Result<Earlier<'e>, AllocError> {
+    fn new(alloc: Global, findings: &'e [Value<'v>]) -> Result<Earlier<'e, 'v>, AllocError> {
         let mut are_found = Vec::new(alloc);
         are_found.resize(findings.len(), false)?;
         Ok(Earlier {
@@ -276,42 +276,17 @@ impl<'w> Accepted<'w> {
     pub(crate) fn rest_of(
         &self,
         alloc: Global,
-        findings: Judgement,
+        findings: &Judgement,
         entries: &[Entry<'_>],
         log: &mut Log,
-    ) -> Result<Judgement, Stop> {
+    ) -> Result<Vec<Finding>, Stop> {
         let mut lines = self.lines(alloc, log)?;
         let mut scratch = Scratch::new(alloc);
         let document = self.document(alloc, &mut scratch, log)?;
-        let earlier = match document.get("findings") {
-            Some(Value::Array(earlier)) => earlier.as_slice(),
-            _ => &[],
-        };
-        let mut earlier = Earlier::new(alloc, earlier)?;
-        let mut rest = Vec::new(alloc);
-        let mut table = Out::new(alloc);
-        for finding in findings.list() {
-            let signature = entries
-                .get(finding.table)
-                .map(|entry| own_signature(entry.bytes));
-            table.clear();
-            print_text(
-                &signature.map_or([0, 0, 0, 0], |it| it.to_bytes()),
-                &mut table,
-            );
-            let fault = Fault {
-                rule: finding.rule.id,
-                table: table.printed().unwrap_or(""),
-                field: finding.field,
-                message: findings.message(finding),
-            };
-            if !earlier.finds(fault) && !is_accepted(&mut lines, fault) {
-                add(&mut rest, *finding)?;
-            }
-        }
+        let mut earlier = Earlier::new(alloc, findings_in(&document))?;
+        let rest = rest_after(alloc, findings, entries, &mut earlier, &mut lines)?;
         self.tell_unused(&lines, log);
-        let Judgement { text, .. } = findings;
-        Ok(Judgement { list: rest, text })
+        Ok(rest)
     }
 
     /// Prints which lines accept nothing.
@@ -339,4 +314,44 @@ fn is_accepted(lines: &mut Vec<Line<'_>>, fault: Fault<'_>) -> bool {
         }
     }
     is_accepted
+}
+
+/// The findings in the document of a check.
+fn findings_in<'d, 'v>(document: &'d Value<'v>) -> &'d [Value<'v>] {
+    match document.get("findings") {
+        Some(Value::Array(findings)) => findings.as_slice(),
+        _ => &[],
+    }
+}
+
+/// The findings that neither an earlier check has nor lines accept.
+///
+/// Fails if memory runs out.
+fn rest_after(
+    alloc: Global,
+    findings: &Judgement,
+    entries: &[Entry<'_>],
+    earlier: &mut Earlier<'_, '_>,
+    lines: &mut Vec<Line<'_>>,
+) -> Result<Vec<Finding>, AllocError> {
+    let mut rest = Vec::new(alloc);
+    let mut table = Out::new(alloc);
+    for finding in findings.list() {
+        let signature = match entries.get(finding.table) {
+            Some(entry) => own_signature(entry.bytes).to_bytes(),
+            None => [0, 0, 0, 0],
+        };
+        table.clear();
+        print_text(&signature, &mut table);
+        let fault = Fault {
+            rule: finding.rule.id,
+            table: table.printed().unwrap_or(""),
+            field: finding.field,
+            message: findings.message(finding),
+        };
+        if !earlier.finds(fault) && !is_accepted(lines, fault) {
+            rest.push(*finding)?;
+        }
+    }
+    Ok(rest)
 }

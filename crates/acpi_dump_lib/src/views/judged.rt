@@ -93,9 +93,10 @@ pub(super) fn findings_in(
     tables: &Tables<'_>,
     log: &mut Log,
 ) -> Result<Judgement, Stop> {
-    let findings = findings_of(&tables.machine(output.alloc))?;
+    let mut findings = findings_of(&tables.machine(output.alloc))?;
     let accepted = output.accepted;
-    accepted.rest_of(output.alloc, findings, &tables.entries, log)
+    findings.list = accepted.rest_of(output.alloc, &findings, &tables.entries, log)?;
+    Ok(findings)
 }
 
 /// Puts findings into the order in which they are printed.

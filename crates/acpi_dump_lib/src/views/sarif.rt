@@ -53,15 +53,16 @@ fn add_words(document: &mut Document<'_>, name: &str, words: &str) {
 }
 
 /// Adds what a rule is.
-fn add_rule(rule: &Rule, document: &mut Document<'_>) {
+fn add_rule(output: Output<'_>, rule: &Rule, document: &mut Document<'_>) {
     document.token(Token::BeginObject);
     document.begin_object("defaultConfiguration");
     document.text("level", rule.severity.word());
     document.token(Token::EndObject);
     add_words(document, "help", rule.section);
     if let Some(page) = page_of(rule.section) {
-        let page = format_args!("https://uefi.org/specs/ACPI/6.5/{page}.html");
-        document.shown("helpUri", &page);
+        let mut address = Out::new(output.alloc);
+        address.fill("https://uefi.org/specs/ACPI/6.5/$.html", &[page]);
+        document.text("helpUri", address.printed().unwrap_or(""));
     }
     document.text("id", rule.id);
     add_words(document, "shortDescription", rule.what);
@@ -82,7 +83,7 @@ fn add_location(
     }
     document.begin_list("logicalLocations");
     document.token(Token::BeginObject);
-    document.shown("fullyQualifiedName", &name.printed().unwrap_or(""));
+    document.text("fullyQualifiedName", name.printed().unwrap_or(""));
     document.token(Token::EndObject);
     document.token(Token::EndArray);
     document.begin_object("physicalLocation");
@@ -101,7 +102,7 @@ fn add_location(
     let mut reference = Out::new(output.alloc);
     print_reference(file, &mut reference);
     document.begin_object("artifactLocation");
-    document.shown("uri", &reference.printed().unwrap_or(""));
+    document.text("uri", reference.printed().unwrap_or(""));
     document.token(Token::EndObject);
     if let Place::File(_) = entry.place {
         document.begin_object("region");
@@ -159,7 +160,7 @@ pub(super) fn print_sarif(
     document.text("name", "acpi_dump");
     document.begin_list("rules");
     for rule in &rules(output.alloc)? {
-        add_rule(rule, &mut document);
+        add_rule(output, rule, &mut document);
     }
     document.token(Token::EndArray);
     document.text("version", "1.0.0");

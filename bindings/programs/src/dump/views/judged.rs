@@ -80,9 +80,10 @@ fn add_findings(findings: &Judgement, entries: &[Entry<'_>], least: Severity, do
 ///
 /// Fails, after printing why, if what is to be left out can't be read, or if memory runs out.
 pub(super) fn findings_in(output: Output<'_>, tables: &Tables<'_>, log: &mut Log) -> Result<Judgement, Stop> {
-    let findings = findings_of(&tables.machine(output.alloc))?;
+    let mut findings = findings_of(&tables.machine(output.alloc))?;
     let accepted = output.accepted;
-    accepted.rest_of(output.alloc, findings, &tables.entries, log)
+    findings.list = accepted.rest_of(output.alloc, &findings, &tables.entries, log)?;
+    Ok(findings)
 }
 
 /// Puts findings into the order in which they are printed.
