@@ -69,7 +69,6 @@ stick:
 regenerate:
 	scripts/regenerate $(OUT)/zacpi.c
 
-.PHONY: docs
 docs:
 	scripts/site $(OUT)/site
 
@@ -118,4 +117,4 @@ uninstall:
 	    $(SHARE)/fish/vendor_completions.d/acpi_dump.fish
 clean:
 	rm -rf $(OUT)
-.PHONY: all kernel acpi_dump stick regenerate check install install-programs uninstall clean
+.PHONY: all kernel acpi_dump stick regenerate docs check install install-programs uninstall clean
