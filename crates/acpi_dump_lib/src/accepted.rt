@@ -318,10 +318,11 @@ fn is_accepted(lines: &mut Vec<Line<'_>>, fault: Fault<'_>) -> bool {
 
 /// The findings in the document of a check.
 fn findings_in<'d, 'v>(document: &'d Value<'v>) -> &'d [Value<'v>] {
-    match document.get("findings") {
-        Some(Value::Array(findings)) => findings.as_slice(),
-        _ => &[],
-    }
+    let found = document.get("findings");
+    let Some(Value::Array(findings)) = found else {
+        return &[];
+    };
+    findings.as_slice()
 }
 
 /// The findings that neither an earlier check has nor lines accept.
