@@ -74,7 +74,7 @@ impl Line<'_> {
 
 /// The findings of an earlier check that aren't found yet.
 struct Earlier<'e, 'v> {
-    findings: &'e [Value<'v>],
+    findings: Option<&'e [Value<'v>]>,
     are_found: Vec<bool>,
     /// The number of the one after the last that was found: the next comes mostly there.
     next: usize,
@@ -82,16 +82,21 @@ struct Earlier<'e, 'v> {
 
 impl<'e, 'v> Earlier<'e, 'v> {
     /// No finding is found yet.
-    fn new(alloc: Global, findings: &'e [Value<'v>]) -> Result<Earlier<'e, 'v>, AllocError> {
+    fn new(alloc: Global, findings: Option<&'e [Value<'v>]>) -> Result<Earlier<'e, 'v>, AllocError> {
         let mut are_found = Vec::new(alloc);
-        are_found.resize(findings.len(), false)?;
+        if let Some(findings) = findings {
+            are_found.resize(findings.len(), false)?;
+        }
         Ok(Earlier { findings, are_found, next: 0 })
     }
 
     /// Finds a fault at one of these places, and takes it from the list. Returns whether it is there.
     fn finds_among(&mut self, first: usize, end: usize, fault: Fault<'_>) -> bool {
+        let Some(findings) = self.findings else {
+            return false;
+        };
         for number in first..end {
-            let (Some(finding), Some(is_found)) = (self.findings.get(number), self.are_found.get_mut(number)) else {
+            let (Some(finding), Some(is_found)) = (findings.get(number), self.are_found.get_mut(number)) else {
                 break;
             };
             if !*is_found && fault.is_in(finding) {
@@ -105,7 +110,7 @@ impl<'e, 'v> Earlier<'e, 'v> {
 
     /// Finds a fault, and takes it from the list. Returns whether it is there.
     fn finds(&mut self, fault: Fault<'_>) -> bool {
-        let (next, end) = (self.next, self.findings.len());
+        let (next, end) = (self.next, self.are_found.len());
         self.finds_among(next, end, fault) || self.finds_among(0, next, fault)
     }
 }
@@ -295,13 +300,12 @@ fn is_accepted(lines: &mut Vec<Line<'_>>, fault: Fault<'_>) -> bool {
     is_accepted
 }
 
-/// The findings in the document of a check.
-fn findings_in<'d, 'v>(document: &'d Value<'v>) -> &'d [Value<'v>] {
-    let found = document.get("findings");
-    let Some(Value::Array(findings)) = found else {
-        return &[];
-    };
-    findings.as_slice()
+/// The findings in a document, if it is one of a check.
+fn findings_in<'d, 'v>(document: &'d Value<'v>) -> Option<&'d [Value<'v>]> {
+    match document.get("findings") {
+        Some(Value::Array(findings)) => Some(findings.as_slice()),
+        _ => None,
+    }
 }
 
 /// The findings that neither an earlier check has nor lines accept.
