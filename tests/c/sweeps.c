@@ -1,8 +1,9 @@
 /* Sweeps over tables laid out by hand: each table's memory as two regions that touch, cut at each place, and each byte
- * of a table but its Length changed to each other value, the ids also where the sum is accepted. No lookup may take such
- * a table: that by its signature and that of its own type refuse, nothing is written but the signature, and the list of
- * faults has why it is passed over. Prints those that fail, and how many memories were tried. The status is 0 if all
- * hold. With `end` or `begin` each region and each output is at a page that can't be touched (edges.h).
+ * of a table but its Length changed to each other value, the ids also with a sum that is right or accepted. No lookup
+ * may take such a table: that by its signature and that of its own type refuse, nothing is written but the signature,
+ * and the list of faults has why it is passed over. Prints those that fail, and how many memories were tried. The
+ * status is 0 if all hold. With `end` or `begin` each region and each output is at a page that can't be touched
+ * (edges.h).
  * cc -std=c99 -Iinclude tests/c/sweeps.c ARCHIVE */
 #define _DEFAULT_SOURCE
 #include "edges.h"
@@ -203,10 +204,10 @@ static void sweep_bytes(const struct swept *table) {
     }
 }
 
-/* The ids with another value in one byte, where the sum isn't looked at: ASCII is accepted. */
-static void sweep_ids(const struct swept *table) {
+/* The ids with another value in one byte, where the sum is right, or isn't looked at: ASCII is accepted. */
+static void sweep_ids(const struct swept *table, uint32_t accept) {
     struct zacpi_region regions[9];
-    const struct zacpi_source source = {regions, table->regions_length, 0x1000, ZACPI_START_RSDT, ZACPI_ACCEPT_SUMS};
+    const struct zacpi_source source = {regions, table->regions_length, 0x1000, ZACPI_START_RSDT, accept};
     uint8_t *bytes = to_be_changed(table, regions);
     size_t offset;
     unsigned bits;
@@ -214,6 +215,7 @@ static void sweep_ids(const struct swept *table) {
         for (bits = 1; bits < 256; bits++) {
             int holds;
             bytes[offset] ^= (uint8_t)bits;
+            if (!accept) zacpi_set_checksum(bytes, table->regions[table->index].length);
             if (bytes[offset] < 0x80) holds = !find(table, &source) && table->find(&source) == table->found;
             else holds = is_passed_over(table, &source, fault_of(offset, bytes[offset]));
             result(holds, table, "id's byte", offset, bytes[offset]);
@@ -229,7 +231,8 @@ int main(int argc, char **argv) {
         result(is_found(table), table, "as it is", 0, 0);
         sweep_cuts(table);
         sweep_bytes(table);
-        sweep_ids(table);
+        sweep_ids(table, 0);
+        sweep_ids(table, ZACPI_ACCEPT_SUMS);
     }
     printf("%lu memories\n", tried);
     return failed ? 1 : 0;
