@@ -106,7 +106,8 @@ impl Chance<'_> {
         if random.one_in(8) || facts.tables.is_empty() {
             return random.next() as u32 as usize;
         }
-        number(&facts.tables[random.index(facts.tables.len())][..4]) as usize
+        let table = &facts.tables[random.index(facts.tables.len())];
+        number(&table[..table.len().min(4)]) as usize
     }
 
     /// How many items a list has.
