@@ -29,10 +29,11 @@ PUTS(fadt_reduced,
     {40, 4, AT(DSDT_S5)} /* DSDT */, {48, 4, 0xb2} /* SMI_CMD */, {52, 1, 0xf1} /* ACPI_ENABLE */,
     {64, 4, 0x604} /* PM1a_CNT_BLK */, {89, 1, 2} /* PM1_CNT_LEN */, {112, 4, 0x100000} /* Flags: HW_REDUCED_ACPI */,
     GENERIC(116, 1, 8, 0, 1, 0xcf9) /* RESET_REG */, GENERIC(244, 0, 8, 0, 1, 0xfee00010) /* SLEEP_CONTROL_REG */);
-/* SMI_CMD is 0, though ACPI_ENABLE isn't, and RESET_REG is at address 0. */
+/* SMI_CMD is 0, though ACPI_ENABLE isn't, and RESET_REG is at address 0. No register is between PM1a_CNT_BLK and
+ * PM2_CNT_BLK. */
 PUTS(fadt_plain,
     {40, 4, AT(DSDT_S5)} /* DSDT */, {52, 1, 0xf1} /* ACPI_ENABLE */, {64, 4, 0x604} /* PM1a_CNT_BLK */,
-    {89, 1, 2} /* PM1_CNT_LEN */, {112, 4, 0x400} /* Flags: RESET_REG_SUP */);
+    {72, 4, 0x850} /* PM2_CNT_BLK */, {89, 1, 2} /* PM1_CNT_LEN */, {112, 4, 0x400} /* Flags: RESET_REG_SUP */);
 PUTS(fadt_bare, {40, 4, AT(DSDT_S5)} /* DSDT */, {112, 4, 0x100000} /* Flags: HW_REDUCED_ACPI */);
 PUTS(fadt_broken,
     {40, 4, AT(DSDT)} /* DSDT: zeros */, {48, 4, 0xb2} /* SMI_CMD */, {53, 1, 0xf0} /* ACPI_DISABLE */);
