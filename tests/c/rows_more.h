@@ -124,8 +124,9 @@ static void check_bad_tables(void) {
         got = zacpi_tables_size(&machine, &size);
         result(got == ZACPI_BAD_TABLE && size == UNCOUNTED, "a bad table's size", (int)i, 0, got);
     }
-    { /* a DSDT of 2^32 + 35 bytes, of which none is read */
-        static const struct zacpi_aml_contents too_long = {code, UINT32_MAX, 2};
+    { /* a DSDT of 2^32 + 35 bytes, of whose AML the first four are read */
+        static const uint8_t begin[4] = {0};
+        static const struct zacpi_aml_contents too_long = {begin, UINT32_MAX, 2};
         const struct zacpi_machine machine = {*ids, &not_listed, 0, &too_long, 1, &facs, 0};
         got = zacpi_tables_size(&machine, &size);
         result(got == ZACPI_TOO_LONG && size == UNCOUNTED, "the size of a long DSDT", 0, 0, got);
