@@ -112,8 +112,8 @@ fn first_words(text: &str, most: usize) -> &str {
     }
 }
 
-/// Prints bytes as characters of a text or of an attribute in double quotes, in HTML or XML, those that aren't printable
-/// ASCII as `.`.
+/// Prints bytes as characters of a text or of an attribute in double quotes, in HTML or XML, those that aren't
+/// printable ASCII as `.`.
 pub fn print_escaped(bytes: &[u8], out: &mut Out) {
     for byte in bytes {
         match *byte {
