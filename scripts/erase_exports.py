@@ -1,7 +1,7 @@
 # SPDX-License-Identifier: MIT
-"""The exports of acpi_c as the Rust package has them, for scripts/erase. A slice is passed to Rattle's as C passes a
-pointer and a number; rustc's `extern "C"` passes it as a struct, which is another way where registers run out. So each
-takes both, and makes the slice of them: that is the package's unsafe code for C, and rests on what zacpi.h asks of
+"""The exports of acpi_c as the Rust package has them, for scripts/erase. A slice is passed to Rattle's as C passes
+a pointer and a number; rustc's `extern "C"` passes it as a struct, which is another way where registers run out. So
+each takes both, and makes the slice of them: that is the package's unsafe code for C, and rests on what zacpi.h asks of
 callers."""
 import re
 

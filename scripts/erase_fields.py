@@ -1,10 +1,10 @@
 # SPDX-License-Identifier: MIT
 """The documentation that the Rust package has of the fields of the calls' records, and of their errors: what the comment
-of a field in zacpi.h has, or the line of scripts/fields."""
+of a field in zacpi.h has, or the line of scripts/fields.txt."""
 import re
 import textwrap
-from header import ROOT, comments
-from rust import rust_name
+from lib.header import ROOT, comments
+from lib.rust import rust_name
 
 
 
@@ -12,8 +12,8 @@ ACRONYMS = r'\b(?:aml|apic|cpu|facs|id|irq|its|msi|nmi|pci|rsdp|uid)\b'
 
 
 def own_words():
-    """The sentences of scripts/fields, by their names."""
-    lines = (ROOT / 'scripts/fields').read_text().splitlines()
+    """The sentences of scripts/fields.txt, by their names."""
+    lines = (ROOT / 'scripts/fields.txt').read_text().splitlines()
     return dict(line.split(' ', 1) for line in lines if not line.startswith('#'))
 
 
@@ -50,7 +50,7 @@ def with_fields(text):
         if field and not lines[-1].startswith('    ///'):
             words = words_of(record, field[1])
             if not words:
-                raise SystemExit(f'scripts/fields: nothing has what {record}.{field[1]} is')
+                raise SystemExit(f'scripts/fields.txt: nothing has what {record}.{field[1]} is')
             lines += [f'    /// {part}' for part in textwrap.wrap(words, 112)]
         lines.append(line)
     return '\n'.join(lines)

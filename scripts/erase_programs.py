@@ -7,10 +7,14 @@ import shutil
 
 # The module of the package that each crate is, and its programs, of one file each.
 MODULES = {'acpi_cli': 'cli', 'acpi_image_reader': 'image_reader', 'acpi_image': 'image', 'acpi_view_lib': 'view',
-           'acpi_pack_lib': 'pack', 'acpi_dump_walk': 'walk', 'acpi_dump_input': 'input', 'acpi_dump_check': 'check',
-           'acpi_dump_compare': 'compare', 'acpi_dump_page': 'page', 'acpi_dump_lib': 'dump'}
+           'acpi_pack_lib': 'pack', 'acpi_dump_walk': 'walk', 'acpi_dump_code': 'code', 'acpi_dump_input': 'input',
+           'acpi_dump_check': 'check', 'acpi_dump_compare': 'compare', 'acpi_dump_page': 'page',
+           'acpi_dump_lib': 'dump'}
 PROGRAMS = ['acpi_dump', 'acpi_view', 'acpi_pack']
 # What the package's root looks at, in the crate whose own it is.
+# Where acpi_dump looks whether a fleet is requested, which is plain Rust (src/fleet).
+FLEET = ('    let (mut sources, mut storage)', '    if let Some(status) = acpi_dump::fleet_status(&arguments) {\n        return Ok(status);\n    }\n'
+         '    let (mut sources, mut storage)')
 OPENED = ('dump/mod.rs', 'mod options;', 'pub(crate) mod options;')
 # Where the package has what is of Rattle's libraries.
 RATTLE = {'clap': 'arguments', 'json': 'json'}
@@ -83,6 +87,8 @@ def programs(erase):
             made[to] = erase.MADE.format(f'{crate}/src/{path}') + text
     for name in PROGRAMS:
         text = text_of(erase, name, 'main.rt', '', 'acpi_dump', '#![forbid(unsafe_code)]\n#![allow(unused_imports)]\n')
+        if name == 'acpi_dump':
+            text = text.replace(*FLEET)
         made[erase.Path('bin', f'{name}.rs')] = erase.MADE.format(f'{name}/src/main.rt') + text
     return made
 

@@ -16,7 +16,7 @@ TO_PACKAGE = ('<!doctype html>\n<html lang="en"><head><meta charset="utf-8"><tit
 
 
 def slug(title):
-    """What a heading is in a link, as scripts/check_documents has it: lower case, without marks, blanks as hyphens."""
+    """What a heading is in a link, as scripts/check/documents has it: lower case, without marks, blanks as hyphens."""
     return re.sub(r'[^\w\- ]', '', html.unescape(re.sub(r'<[^>]*>', '', title))).lower().replace(' ', '-')
 
 

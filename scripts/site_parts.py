@@ -1,12 +1,12 @@
 # SPDX-License-Identifier: MIT
-"""What all pages of the site (scripts/site) share: the frame with the ways to other pages, links between pages, and
-what the search finds."""
+"""What all pages of the site (scripts/site) share: the frame with the ways to other pages, links between pages,
+and what the search finds."""
 import html
 import json
 import re
 from pathlib import Path
 
-import header_items
+from lib import header_items
 
 ROOT = header_items.ROOT
 # The documents that are pages, with their places; other ones that are linked get theirs by their path.
@@ -29,7 +29,8 @@ MORE = ('All of it', [('What it is', 'index.html'), ('Compared', 'compared.html'
                       ('Definitions', 'definitions.html'), ('Footprints', 'footprints.html'),
                       ('Decisions', 'decisions.html'), ('Speed', 'speed.html'), ('Map of the code', 'map.html'),
                       ('Glossary', 'glossary.html'), ('Changes', 'changelog.html'), ('Security', 'security.html'),
-                      ('Contributing', 'contributing.html')])
+                      ('Contributing', 'contributing.html'), ('A first day: a field', 'first_field.html'),
+                      ('A first day: an option', 'first_option.html')])
 LISTED = {page for _, pages in DOORS + [MORE] for _, page in pages}
 MORE[1].extend((Path(name).stem.capitalize(), page) for name, page in DOCUMENTS.items() if page not in LISTED)
 # What else is behind the first door.

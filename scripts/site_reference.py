@@ -1,12 +1,12 @@
 # SPDX-License-Identifier: MIT
-"""Pages of the site (scripts/site) for C's calls, records and constants: of what Doxygen reads in the headers, with the
-errors of each call in order, its records and a caller of it."""
+"""Pages of the site (scripts/site) for C's calls, records and constants: of what Doxygen reads in the headers,
+with the errors of each call in order, its records and a caller of it."""
 import re
 import subprocess
 import xml.etree.ElementTree as tree
 
-import call_pages
-import header_items
+from lib import call_pages
+from lib import header_items
 from site_parts import ROOT, escape, headings, plain
 
 INDEX = 'reference/index.html'

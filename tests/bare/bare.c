@@ -90,7 +90,7 @@ int printf(const char *format, ...) {
 /* Pages of a pool, each request after the ones before. */
 void *mmap(void *at, size_t length, int protection, int flags, int file, long offset) {
     static union {
-        unsigned char bytes[1 << 20];
+        unsigned char bytes[1 << 26];
         unsigned long long aligned;
     } pool;
     static size_t used;

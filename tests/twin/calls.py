@@ -5,29 +5,20 @@ C's; src/exports.rs, the exports of crates/acpi_c without what Rattle has beyond
 src/calls.rs: the records of include/zacpi.h with the places of their fields, and of each call what each argument is,
 the export of the C library, and the function of Rust that has the same words; and calls.c, which makes the calls by
 their numbers for child.c."""
-import importlib.machinery
-import importlib.util
 import re
 import sys
 from pathlib import Path
 
 sys.dont_write_bytecode = True
-SCRIPTS = Path(__file__).resolve().parent.parent.parent / 'scripts'
-sys.path.insert(0, str(SCRIPTS))
+sys.path.insert(0, str(Path(__file__).resolve().parents[2] / 'scripts'))
 from erase_programs import copy_packages
-from header import SIZES, abi, calls, lists, structs
-from rattle import ROOT, erased
+from lib.commands import command
+from lib.header import SIZES, abi, calls, lists, structs
+from lib.rattle import ROOT, erased
 
 EXPORTS = ROOT / 'crates/acpi_c/src/made'
 RUST = {1: 'u8', 2: 'u16', 4: 'u32', 8: 'u64'}
 NUMBERS = {**SIZES, 'uint64_t': 8, 'size_t': 8}
-
-
-def scripts_erase():
-    loader = importlib.machinery.SourceFileLoader('erase', str(SCRIPTS / 'erase'))
-    module = importlib.util.module_from_spec(importlib.util.spec_from_loader('erase', loader))
-    loader.exec_module(module)
-    return module
 
 
 def exports(erase):
@@ -151,7 +142,7 @@ def calls_by_number():
 
 def main():
     folder = Path(sys.argv[1])
-    erase = scripts_erase()
+    erase = command('erase')
     (folder / 'src').mkdir(parents=True, exist_ok=True)
     copy_packages(erase, folder)
     (folder / 'src/exports.rs').write_text(exports(erase))

@@ -63,8 +63,8 @@ pub fn entries(table: &[u8]) -> Vec<(usize, usize)> {
         return found;
     }
     let Some(shape) = shape(&table[..4]) else { return found };
-    let is_moved = &table[..4] == b"GTDT" && table.len() > 92;
-    let mut from = if is_moved { number(&table[88..92]) as usize } else { shape.first };
+    let is_moved = &table[..4] == b"GTDT" && table.len() > 96; // by Platform Timer Offset
+    let mut from = if is_moved { number(&table[92..96]) as usize } else { shape.first };
     while found.len() < 200 && from + 4 <= table.len() {
         let end = (from + shape.at + shape.width).min(table.len());
         let length = if shape.width == 0 { 16 } else { number(&table[from + shape.at..end]) as usize };
