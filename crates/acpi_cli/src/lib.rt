@@ -1,8 +1,9 @@
-//! Code that the programs share: arguments, the way to the root table that they name, and files that are read.
+//! Code that the programs share: arguments, the way to the root table that they name, and files that are saved.
 #![tactic(auto)]
 
-pub mod files;
 pub mod root;
+pub mod save;
+pub mod storage;
 
 ghost use Rattle.std.specs.Prelude.{◌≡◌, ◌≢◌, ◌^◌, ◌≤◌, [], IfErr, IfOk, IsOkAnd, drop, map, string_bytes};
 ghost use Rattle.acpi_base.specs.FromStd.{is_digit, error_kind, list_all};

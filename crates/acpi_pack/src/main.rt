@@ -6,10 +6,10 @@
 //! of the image.
 #![tactic(auto)]
 
-use acpi_cli::files::HostFiles;
+use acpi_cli::storage::HostStorage;
 use acpi_cli::{args, borrowed};
+use acpi_pack_lib::files::HostFiles;
 use acpi_pack_lib::program::pack;
-use acpi_pack_lib::storage::HostStorage;
 use std::io;
 use std::process::ExitCode;
 

@@ -7,8 +7,8 @@ use Rattle.acpi_base.proofs.FromStd.{drop_of_length-le, cases_lt, nat_tests, leb
 use Rattle.acpi_image_reader.specs.Words.{share, shares_any, IsImage, record_spelling}
 use Rattle.acpi_base.specs.Words.{Memory, Region, end_of, AreApart, IsMemory, ◌>>=◌, IsBytes, own_table_at}
 use Rattle.acpi_pack_lib.specs.Words.{content, contents, region_at, check_place, check_places, regions, file_of, bytes_in, entries, listed, FileRole, Listed, ArePlaced, IsPlaced, aligned, place_at, place_or, placed_from, start_at, Refusal, IsMemoryFile, IsRight}
-use Rattle.acpi_cli.specs.Reads.{contents_of, read_of}
-use Rattle.acpi_cli.specs.declared.files.Reading.{Reading}
+use Rattle.acpi_pack_lib.specs.Reads.{contents_of, read_of}
+use Rattle.acpi_pack_lib.specs.declared.files.Reading.{Reading}
 use Rattle.acpi_base.proofs.Words.{bind_ok, holds_ok, same_ok}
 use Rattle.acpi_image.specs.Words.{placed, placed_region, starts_of}
 use Rattle.acpi_image.specs.declared.write.PlacedTable.{PlacedTable}

@@ -1,9 +1,10 @@
 -- What is saved when a run ends in an error.
 use Rattle.std.proofs.Common.{◌≡◌, ℕ, List, [], ◌∷◌, ◌++◌, Option, Some, None, OnErr, Result, Ok, Err, inl, inr, refl}
-use Rattle.acpi_pack_lib.specs.Words.{Ends, FileSaved, IsFormOf, Request, SavesAtMost, SavesImage, SavesOnce, SavesOutcome, SavesPacked}
+use Rattle.acpi_cli.specs.Saves.{FileSaved}
+use Rattle.acpi_pack_lib.specs.Words.{Ends, IsFormOf, Request, SavesAtMost, SavesImage, SavesOnce, SavesOutcome, SavesPacked}
 use Rattle.acpi_pack_lib.specs.declared.run.Outcome.{Outcome}
 use Rattle.acpi_pack_lib.specs.declared.run.Outcome.TheVariants as outcome
-use Rattle.acpi_pack_lib.specs.declared.save.SaveError.{SaveError}
+use Rattle.acpi_cli.specs.declared.save.SaveError.{SaveError}
 
 pub saves_none : (saves : List FileSaved → List FileSaved → Type 0) (old new : List FileSaved) → new ≡ old
     → SavesAtMost saves old new

@@ -5,9 +5,8 @@ pub mod Packed
 pub mod Place
 pub mod Plain
 pub mod Program
+pub mod Reads
 pub mod Run
-pub mod Save
-pub mod Saves
 pub mod Sources
 pub mod Sums
 pub mod Texts

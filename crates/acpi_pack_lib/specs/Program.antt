@@ -1,13 +1,13 @@
 -- What the program does with its arguments, its files, its storage and its outputs.
 use Rattle.std.specs.Prelude.{◌≡◌, ℕ, ◌⊎◌, Bool, true, false, List, [], ◌∷◌, ◌++◌, codes, Option, Some, None, Result, Ok, Err}
 use Rattle.acpi_base.specs.FromStd.{Appends}
-use Rattle.acpi_cli.specs.Reads.{Asks, FileRead, contents_of}
+use Rattle.acpi_pack_lib.specs.Reads.{Asks, FileRead, contents_of}
 use Rattle.acpi_pack_lib.specs.Listing.{labels_of, listing}
 use Rattle.acpi_pack_lib.specs.Plain.{HasNoPlain, IsPlainOf}
 use Rattle.acpi_pack_lib.specs.Pack.{file_of}
 use Rattle.acpi_pack_lib.specs.Run.{Ends, packed_by}
-use Rattle.acpi_pack_lib.specs.Save.{save_error_text}
-use Rattle.acpi_pack_lib.specs.Saves.{FileSaved}
+use Rattle.acpi_cli.specs.Save.{save_error_text}
+use Rattle.acpi_cli.specs.Saves.{FileSaved}
 use Rattle.acpi_pack_lib.specs.Sums.{sources_for}
 use Rattle.acpi_pack_lib.specs.Texts.{refusal_text}
 use Rattle.acpi_pack_lib.specs.Told.{told_of}
@@ -15,7 +15,7 @@ use Rattle.acpi_pack_lib.specs.Arguments.{Request, request_in}
 use Rattle.acpi_pack_lib.specs.declared.error.Refusal.{Refusal}
 use Rattle.acpi_pack_lib.specs.declared.run.Outcome.{Outcome}
 use Rattle.acpi_pack_lib.specs.declared.run.Outcome.TheVariants as outcome
-use Rattle.acpi_pack_lib.specs.declared.save.SaveError.{SaveError}
+use Rattle.acpi_cli.specs.declared.save.SaveError.{SaveError}
 
 -- the files that are read for a request; none for no command
 abbrev pub files_for : Option Request → List (List ℕ)

@@ -105,12 +105,6 @@ pub use Rattle.acpi_pack_lib.specs.Run.{
   refused_name,
   usage_line,
 }
-pub use Rattle.acpi_pack_lib.specs.Save.{
-  are_same,
-  check_found,
-  save_error_text,
-}
-pub use Rattle.acpi_pack_lib.specs.Saves.{FileSaved}
 pub use Rattle.acpi_pack_lib.specs.Sources.{
   bytes_in,
   bytes_of,

@@ -1,19 +1,19 @@
 //! The program over any files, any storage and any writers.
 ghost use Rattle.std.specs.Prelude.{◌≡◌, true, IfErr, IfOk, OnErr, map, option_map};
-ghost use Rattle.acpi_cli.specs.Reads.{AsksFront};
+ghost use Rattle.acpi_pack_lib.specs.Reads.{AsksFront};
 ghost use Rattle.acpi_pack_lib.specs.Words.{contents, Follows, HasNoPlain, IsFormOf, Packs, PacksFiles, Runs, SavesAtMost, SavesBytes, SavesImage, SavesOnce, SavesOrRefuses, SavesOutcome, SavesPacked, SavesRead, files_for, fixes_sums, request_in, request_of, sources_for};
 
 use crate::arguments::{Command, Options, parse_command};
 use crate::error::Refusal;
+use crate::files::{Files, count};
 use crate::help::told;
 use crate::listing::record_lines;
 use crate::plain::plain_of;
 use crate::reading::{contents_from, read_all};
 use crate::run::{Outcome, run};
 use crate::sources::FileBytes;
-use crate::storage::Storage;
 use crate::sums::{all_summed, lent};
-use acpi_cli::files::{Files, count};
+use acpi_cli::storage::Storage;
 use std::alloc::{AllocError, Global};
 use std::io;
 use std::io::Write;

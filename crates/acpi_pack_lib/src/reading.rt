@@ -1,8 +1,8 @@
 //! The files that a command names, as they are read.
 ghost use Rattle.std.specs.Prelude.{◌≡◌, IfOk, OnErr, OnOk, drop, map, option_copied};
-ghost use Rattle.acpi_cli.specs.Reads.{Asks, AsksFront, contents_of, read_of};
+ghost use Rattle.acpi_pack_lib.specs.Reads.{Asks, AsksFront, contents_of, read_of};
 
-use acpi_cli::files::{Files, Reading};
+use crate::files::{Files, Reading};
 use std::alloc::{AllocError, Global};
 
 /// Reads the files of these names, each once and in order.

@@ -1,8 +1,9 @@
 -- What follows of what is read.
 use Rattle.std.proofs.Common.{◌≡◌, ◌∙◌, ℕ, List, [], IfOk, OnErr, ap, drop, length, map, refl, subst, sym, Option, Result, Ok, Err, option_map, inl, inr}
 use Rattle.acpi_base.proofs.FromStd.{drop-append_seam, append-nil}
-use Rattle.acpi_cli.specs.Reads.{Asks, FileRead, contents_of}
-use Rattle.acpi_pack_lib.specs.Words.{Effects, FileSaved, Packs, PacksFiles, SavesAtMost, SavesPacked, SavesRead, files_for, Request, request_in, request_of, contents, sources_for}
+use Rattle.acpi_pack_lib.specs.Reads.{Asks, FileRead, contents_of}
+use Rattle.acpi_cli.specs.Saves.{FileSaved}
+use Rattle.acpi_pack_lib.specs.Words.{Effects, Packs, PacksFiles, SavesAtMost, SavesPacked, SavesRead, files_for, Request, request_in, request_of, contents, sources_for}
 use Rattle.acpi_pack_lib.proofs.program.pack_asked.Goals as goal
 
 on_err : {T E : Type 0} (r : Result T E) (P : Type 0) → P → OnErr r P

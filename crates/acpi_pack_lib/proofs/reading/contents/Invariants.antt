@@ -1,5 +1,5 @@
 use Rattle.std.proofs.Common.{◌≡◌, ◌++◌, drop, map, option_copied}
-use Rattle.acpi_cli.specs.Reads.{read_of}
+use Rattle.acpi_pack_lib.specs.Reads.{read_of}
 use Rattle.acpi_pack_lib.proofs.reading.contents.Given as goal
 
 abbrev pub invariant-loop-reading : goal.invariant-loop-reading

@@ -1,7 +1,7 @@
 -- Asking for files one after the other.
 use Rattle.std.proofs.Common.{Bor, ◌+◌, ◌<◌, ◌≤◌, drop, get_or, length, subst, ◌≡◌, ◌∙◌, ℕ, List, [], ◌∷◌, ◌++◌, ap, arith, map, refl, sym, Option}
 use Rattle.acpi_base.proofs.FromStd.{drop_of_length-le, drop_more, append_assoc, append-nil, map-append}
-use Rattle.acpi_cli.specs.Reads.{Asks, AsksUntil, FileRead}
+use Rattle.acpi_pack_lib.specs.Reads.{Asks, AsksUntil, FileRead}
 use Rattle.acpi_pack_lib.proofs.reading.read_all.Goals as goal
 
 -- at first none was requested

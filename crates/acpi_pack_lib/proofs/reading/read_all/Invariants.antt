@@ -1,5 +1,5 @@
 use Rattle.std.proofs.Common.{drop, map}
-use Rattle.acpi_cli.specs.Reads.{AsksUntil}
+use Rattle.acpi_pack_lib.specs.Reads.{AsksUntil}
 use Rattle.acpi_pack_lib.proofs.reading.read_all.Given as goal
 
 -- the names still to come are left

@@ -1,6 +1,6 @@
 -- The files that a program requests.
 use Rattle.std.specs.Prelude.{◌≡◌, ℕ, List, ◌++◌, map, Option, option_map, string_bytes}
-use Rattle.acpi_cli.specs.declared.files.Reading.{Reading}
+use Rattle.acpi_pack_lib.specs.declared.files.Reading.{Reading}
 
 -- a file that was requested: its name, and its bytes, or none if it can't be read
 pub record FileRead : Type 0 where

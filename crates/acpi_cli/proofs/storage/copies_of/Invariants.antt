@@ -1,5 +1,5 @@
 use Rattle.std.proofs.Common.{◌≡◌, ◌++◌, drop, map, string_bytes}
-use Rattle.acpi_pack_lib.proofs.storage.copies_of.Given as goal
+use Rattle.acpi_cli.proofs.storage.copies_of.Given as goal
 
 abbrev pub invariant-loop-text : goal.invariant-loop-text
 invariant-loop-text l =

@@ -1,6 +1,6 @@
 //! Files as a program requests them: each name that it requests is listed, with the bytes that were read.
 ghost use Rattle.std.specs.Prelude.{◌≡◌, ◌++◌, ◌∷◌, ℕ, List, [], IfOk, OnErr, OnOk, Option, length, map, option_copied};
-ghost use Rattle.acpi_cli.specs.Reads.{FileRead, read_of};
+ghost use Rattle.acpi_pack_lib.specs.Reads.{FileRead, read_of};
 
 use std::alloc::AllocError;
 use std::fs;
@@ -66,7 +66,7 @@ impl<'r> HostFiles<'r> {
 /// Lists each name with the bytes that the system gave for it.
 impl Files for HostFiles<'_> {
     ghost use Rattle.std.specs.Prelude.{map};
-    ghost use Rattle.acpi_cli.specs.Reads.{read_of};
+    ghost use Rattle.acpi_pack_lib.specs.Reads.{read_of};
 
     ghost asked = { λ f. map read_of f.readings.items };
 

@@ -1,7 +1,7 @@
 -- The files that a program saves.
 use Rattle.std.specs.Prelude.{ℕ, List, map, Result, string_bytes}
-use Rattle.acpi_pack_lib.specs.declared.save.SaveError.{SaveError}
-use Rattle.acpi_pack_lib.specs.declared.storage.Saved.{Saved}
+use Rattle.acpi_cli.specs.declared.save.SaveError.{SaveError}
+use Rattle.acpi_cli.specs.declared.storage.Saved.{Saved}
 
 -- a file that was to be saved: its name, the names of the files that it was made from, its bytes, and
 -- whether it is saved, or why not

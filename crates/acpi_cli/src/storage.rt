@@ -1,6 +1,6 @@
 //! Storages, in which files are saved: each file that was to be saved is listed, with the result.
 ghost use Rattle.std.specs.Prelude.{◌≡◌, ◌++◌, ◌∷◌, List, [], IfOk, OnErr, map, string_bytes};
-ghost use Rattle.acpi_pack_lib.specs.Saves.{FileSaved};
+ghost use Rattle.acpi_cli.specs.Saves.{FileSaved};
 
 use crate::save::{SaveError, save};
 use std::alloc::{AllocError, Global};
@@ -84,7 +84,7 @@ fn copies_of(alloc: Global, texts: &[&str]) -> Result<Vec<String>, AllocError>
 /// Lists each file with its name, its sources, its bytes, and the result of `save`.
 impl Storage for HostStorage<'_> {
     ghost use Rattle.std.specs.Prelude.{map};
-    ghost use Rattle.acpi_pack_lib.specs.Saves.{saved_of};
+    ghost use Rattle.acpi_cli.specs.Saves.{saved_of};
 
     ghost saved = { λ s. map saved_of s.saved.items };
 

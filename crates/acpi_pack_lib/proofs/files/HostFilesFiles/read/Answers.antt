@@ -1,8 +1,8 @@
 use Rattle.std.proofs.Common.{◌≡◌, ◌∙◌, ◌++◌, ◌∷◌, ℕ, List, [], ap, map, option_map, string_bytes}
 use Rattle.acpi_base.proofs.FromStd.{map-append}
-use Rattle.acpi_cli.specs.Reads.{read_of}
-use Rattle.acpi_cli.specs.declared.files.Reading.{Reading}
-use Rattle.acpi_cli.proofs.files.HostFilesFiles.read.Goals as goal
+use Rattle.acpi_pack_lib.specs.Reads.{read_of}
+use Rattle.acpi_pack_lib.specs.declared.files.Reading.{Reading}
+use Rattle.acpi_pack_lib.proofs.files.HostFilesFiles.read.Goals as goal
 
 -- one more is listed
 listed : (before after : List Reading) (r : Reading) (name : List ℕ)

@@ -1,10 +1,10 @@
 -- Why the file that is made isn't written.
 use Rattle.std.specs.Prelude.{ℕ, Bool, false, if◌then◌else◌, ◌&&◌, ◌==◌, List, codes, Option, Some, None, Result, Ok, Err}
-use Rattle.acpi_pack_lib.specs.declared.save.Found.{Found}
-use Rattle.acpi_pack_lib.specs.declared.save.Found.TheVariants as found
-use Rattle.acpi_pack_lib.specs.declared.save.Identity.{Identity}
-use Rattle.acpi_pack_lib.specs.declared.save.SaveError.{SaveError}
-use Rattle.acpi_pack_lib.specs.declared.save.SaveError.TheVariants as refusal
+use Rattle.acpi_cli.specs.declared.save.Found.{Found}
+use Rattle.acpi_cli.specs.declared.save.Found.TheVariants as found
+use Rattle.acpi_cli.specs.declared.save.Identity.{Identity}
+use Rattle.acpi_cli.specs.declared.save.SaveError.{SaveError}
+use Rattle.acpi_cli.specs.declared.save.SaveError.TheVariants as refusal
 
 -- the variant's name
 abbrev pub save_error_text : SaveError → List ℕ

@@ -1,9 +1,9 @@
 //! Saving the file that is made.
 ghost use Rattle.std.specs.Prelude.{◌≡◌, ◌≢◌, IfErr, IfOk};
 ghost use Rattle.acpi_base.specs.FromStd.{IsFile, file_type, error_kind};
-ghost use Rattle.acpi_pack_lib.specs.Words.{are_same, check_found};
-ghost use Rattle.acpi_pack_lib.specs.declared.save.Found.TheVariants as found;
-ghost use Rattle.acpi_pack_lib.specs.declared.save.SaveError.TheVariants as refusal;
+ghost use Rattle.acpi_cli.specs.Save.{are_same, check_found};
+ghost use Rattle.acpi_cli.specs.declared.save.Found.TheVariants as found;
+ghost use Rattle.acpi_cli.specs.declared.save.SaveError.TheVariants as refusal;
 
 use std::fmt;
 use std::fs::{self, File, Metadata, OpenOptions};
@@ -31,7 +31,7 @@ pub enum SaveError {
 /// Prints the variant's name.
 impl fmt::Display for SaveError {
     ghost use Rattle.std.specs.Prelude.{Some};
-    ghost use Rattle.acpi_pack_lib.specs.Words.{save_error_text};
+    ghost use Rattle.acpi_cli.specs.Save.{save_error_text};
 
     ghost output = { λ e. Some (save_error_text e) };
 
