@@ -1,0 +1,19 @@
+//! AML as a listing: one operation a line, by the opcodes of ACPI 6.5, section 20. AML is not run.
+//!
+//! Every function returns for every input, without fault. What is listed is tested, and not proved.
+#![tactic(auto)]
+
+mod begun;
+pub mod changes;
+mod known;
+mod lines;
+mod listing;
+mod names;
+mod operations;
+mod parts;
+mod terms;
+pub mod text;
+mod why;
+
+pub use known::{Known, Paths, paths_of};
+pub use listing::{Extent, ShowCode, list_code};
