@@ -6,8 +6,8 @@ use Rattle.acpi_base.proofs.FromStd.{append_assoc, append-nil, get_or_default}
 use Rattle.acpi_dump_input.proofs.Lists.{has_mapped, map_take_more}
 use Rattle.acpi_dump_input.specs.Extract.{IsNamed, IsSaved, IsTable, SavesFile, SavesTables, SavesWanted, file_of}
 use Rattle.acpi_dump_input.specs.declared.entries.Entry.{Entry}
-use Rattle.acpi_pack_lib.specs.Saves.{FileSaved}
-use Rattle.acpi_pack_lib.specs.declared.save.SaveError.{SaveError}
+use Rattle.acpi_cli.specs.Saves.{FileSaved}
+use Rattle.acpi_cli.specs.declared.save.SaveError.{SaveError}
 
 -- two Booleans that can't be
 distinct : true ≡ false → ⊥

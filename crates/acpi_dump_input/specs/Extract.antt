@@ -1,8 +1,8 @@
 -- What is saved: --extract tables, each as a file of one folder, --html a page as one file.
 use Rattle.std.specs.Prelude.{◌≡◌, ◌⊎◌, ◌≢◌, ◌<◌, ℕ, Bool, true, false, ◌==◌, List, [], ◌∷◌, ◌++◌, All, Contains, codes, length, Result, Ok, Err}
 use Rattle.std.specs.List.{list_any}
-use Rattle.acpi_pack_lib.specs.Saves.{FileSaved}
-use Rattle.acpi_pack_lib.specs.declared.save.SaveError.{SaveError}
+use Rattle.acpi_cli.specs.Saves.{FileSaved}
+use Rattle.acpi_cli.specs.declared.save.SaveError.{SaveError}
 
 -- whether something may be left out: after an error, and else if the run is marked as incomplete
 abbrev pub is_partial : {A E : Type 0} → Result A E → Bool → Bool

@@ -3,6 +3,7 @@
 use acpi::rsdp::Rsdp;
 use acpi::{AcpiError, AcpiResult, AddressRange, PhysicalRecord};
 use acpi_base::bytes::field;
+use acpi_dump_walk::language::number_at;
 use acpi_image_reader::MemoryImage;
 use std::alloc::{AllocError, Global};
 
@@ -44,6 +45,12 @@ fn candidate_of(address: u64, lent: &[u8]) -> Candidate {
         refusal,
         fields,
     }
+}
+
+/// The bytes of the RSDP that bytes begin with, as far as they are there: 20, or from revision 1 on 36.
+pub(crate) fn rsdp_in(lent: &[u8]) -> &[u8] {
+    let length = if number_at(lent, 15, 1) == 0 { 20 } else { 36 };
+    lent.get(..length).unwrap_or(lent)
 }
 
 /// The refusal of an RSDP in a file of its own, which for revision 0 has 20 bytes.

@@ -3,7 +3,7 @@ ghost use Rattle.std.specs.Prelude.{◌≡◌, ◌<◌, ℕ, All, IfOk, drop, le
 ghost use Rattle.acpi_image_reader.specs.Words.{memory_of};
 ghost use Rattle.acpi_dump_input.specs.Inputs.{IsPart, IsRest, tables_in};
 
-use crate::candidates::check_file;
+use crate::candidates::{check_file, rsdp_in};
 use crate::flaws::is_malformed;
 use crate::status::Status;
 use crate::tables::TableFile;
@@ -223,6 +223,25 @@ fn looked_over(alloc: Global, status: Status, bytes: &[u8]) -> Status {
     }
 }
 
+/// What the checks of section 5.2.5.3 say of an RSDP.
+fn check_rsdp(bytes: &[u8]) -> Status {
+    match check_file(bytes) {
+        Ok(()) => Status::Valid,
+        Err(refusal) => Status::Refused(refusal),
+    }
+}
+
+/// The RSDP at an address of a memory, in the way of a table.
+pub fn rsdp_at<'i>(image: &MemoryImage<'i>, address: u64) -> Entry<'i> {
+    let bytes = rsdp_in(bytes_from(image, address));
+    Entry {
+        place: Place::Address(address),
+        sought: None,
+        bytes,
+        status: check_rsdp(bytes),
+    }
+}
+
 /// The table in a file.
 fn entry_of_file(alloc: Global, file: &TableFile) -> Entry<'_>
     ensures { result.bytes.now ≡ file.now.bytes.items }
@@ -234,10 +253,7 @@ fn entry_of_file(alloc: Global, file: &TableFile) -> Entry<'_>
     };
     let signature = own_signature(lent);
     let status = if lent.starts_with(b"RSD PTR ") {
-        match check_file(lent) {
-            Ok(()) => Status::Valid,
-            Err(refusal) => Status::Refused(refusal),
-        }
+        check_rsdp(lent)
     } else {
         check(lent, signature, AcpiError::SdtInvalidLength(signature))
     };

@@ -3,9 +3,9 @@
 ghost use Rattle.std.specs.Prelude.{◌≡◌, true};
 
 use acpi::AcpiError;
+use acpi_cli::save::SaveError;
 use acpi_dump_walk::out::Out;
 use acpi_image::ImageError;
-use acpi_pack_lib::save::SaveError;
 use std::alloc::{AllocError, Global};
 use std::fmt;
 use std::fmt::Display;

@@ -6,8 +6,8 @@ use crate::dumped::print_letters;
 use crate::entries::Entry;
 use crate::errors::{Log, Stop, fail, fail_with};
 use crate::sources::{Kind, Sources, reason_of};
+use acpi_cli::storage::Storage;
 use acpi_dump_walk::out::Out;
-use acpi_pack_lib::storage::Storage;
 use std::alloc::{AllocError, Global};
 use std::io::ErrorKind;
 
