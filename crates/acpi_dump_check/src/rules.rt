@@ -5,6 +5,21 @@ use acpi_dump_input::judgement::{Rule, Severity};
 use acpi_dump_walk::language::{cut_at, next_word};
 use std::alloc::{AllocError, Global};
 
+/// The rule that a line is, if it is one.
+fn rule_in(line: &'static str) -> Option<Rule> {
+    let (id, line) = next_word(line);
+    let (severity, line) = next_word(line);
+    let (section, line) = cut_at(line, '|');
+    let (what, message) = cut_at(line, '|');
+    Some(Rule {
+        id,
+        severity: Severity::read(severity)?,
+        section: section.trim_ascii(),
+        what: what.trim_ascii(),
+        message: message.trim_ascii(),
+    })
+}
+
 /// All rules, subject by subject.
 ///
 /// Fails if memory runs out.
@@ -12,18 +27,8 @@ pub fn rules(alloc: Global) -> Result<Vec<Rule>, AllocError> {
     let mut all = Vec::new(alloc);
     for subject in &subjects() {
         for line in subject.split('\n') {
-            let (id, line) = next_word(line);
-            let (severity, line) = next_word(line);
-            let (section, line) = cut_at(line, '|');
-            let (what, message) = cut_at(line, '|');
-            if let Some(severity) = Severity::read(severity) {
-                all.push(Rule {
-                    id,
-                    severity,
-                    section: section.trim_ascii(),
-                    what: what.trim_ascii(),
-                    message: message.trim_ascii(),
-                })?;
+            if let Some(rule) = rule_in(line) {
+                all.push(rule)?;
             }
         }
     }

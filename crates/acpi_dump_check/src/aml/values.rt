@@ -1,6 +1,6 @@
 //! What names of a meaning are set to: ids, states and references (ACPI 6.5, sections 6.1, 6.2.13, 6.3.7 and 7.4.2).
 
-use super::names::{Named, Names, ROOT, key_of};
+use super::names::{Named, Names, ROOT};
 use crate::findings::Findings;
 use crate::machine::Machine;
 use acpi::sdt::{Signature, field};
@@ -180,7 +180,9 @@ fn is_there(names: &Names<'_>, it: &Named<'_>, name: (bool, usize, &[u8])) -> bo
         let outer = scope
             .get(..depth.saturating_sub(up).saturating_mul(4))
             .unwrap_or(&[]);
-        if names.find_in(key_of(ROOT, outer), segments).is_some() {
+        if let Some(scope) = names.number_of(ROOT, outer)
+            && names.find_in(scope, segments).is_some()
+        {
             return true;
         }
         if !is_sought {
