@@ -390,7 +390,7 @@ pub(super) fn print_digest(side: Side<'_>, number: usize, part: &Part, out: &mut
     for item in side.items_in(number) {
         if item.part == number && tells(item) && count < 4 {
             let meaning = side.meaning(item);
-            let value = if meaning.is_empty() {
+            let value = if meaning.is_empty() || part.own.is_some() {
                 Value(side.digits(item))
             } else {
                 Words(meaning, 48)
