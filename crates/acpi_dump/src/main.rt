@@ -2,10 +2,10 @@
 #![tactic(auto)]
 
 use acpi_cli::borrowed;
+use acpi_cli::storage::HostStorage;
 use acpi_dump_input::sources::HostSources;
 use acpi_dump_lib::parser::OptionParser;
 use acpi_dump_lib::run::{dump, refuse_arguments};
-use acpi_pack_lib::storage::HostStorage;
 use std::process::ExitCode;
 use std::{env, io};
 

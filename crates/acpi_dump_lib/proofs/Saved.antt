@@ -12,7 +12,7 @@ use Rattle.acpi_dump_input.specs.declared.gather.Input.{Input}
 use Rattle.acpi_dump_input.specs.declared.gather.Input.TheVariants as input
 use Rattle.acpi_dump_lib.specs.Asked.{Asked, IsAsked, Parsed, has_none, is_shown}
 use Rattle.acpi_dump_lib.specs.Saves.{SavesAsked, SavesFor, SavesIn, SavesInput, SavesOrFails, SavesPaged, SavesParsed}
-use Rattle.acpi_pack_lib.specs.Saves.{FileSaved}
+use Rattle.acpi_cli.specs.Saves.{FileSaved}
 use Rattle.clap.specs.Matches.{found_of}
 use Rattle.clap.specs.Values.{kind_of}
 use Rattle.clap.specs.declared.error.Error.{Error}

@@ -5,7 +5,7 @@ use Rattle.acpi_dump_input.specs.Given.{inputs_read}
 use Rattle.acpi_dump_input.specs.Inputs.{AreAllTables, AreTables, IsInput}
 use Rattle.acpi_dump_input.specs.declared.gather.Input.{Input}
 use Rattle.acpi_dump_lib.specs.Asked.{Asked, IsAsked, Parsed, is_shown}
-use Rattle.acpi_pack_lib.specs.Saves.{FileSaved}
+use Rattle.acpi_cli.specs.Saves.{FileSaved}
 use Rattle.clap.specs.Matches.{found_of}
 use Rattle.clap.specs.Values.{kind_of}
 

@@ -1,10 +1,13 @@
 //! The contents of chosen tables.
 ghost use Rattle.std.specs.Prelude.{◌≡◌, [], All, Contains, IfOk, map};
 
+use crate::code::{is_code, show_code};
 use crate::getters::print_getters;
 use crate::options::{Choice, Contents};
 use crate::paint::Paint;
 use acpi::sdt::Signature;
+use acpi_dump_code::Known;
+use acpi_dump_code::text::CodeText;
 use acpi_dump_input::dumped::print_dumped;
 use acpi_dump_input::entries::{Entry, own_signature, print_name};
 use acpi_dump_input::errors::{Log, fail};
@@ -59,11 +62,17 @@ pub(crate) fn chosen_of<'l>(
 }
 
 /// Prints the tables that are chosen, choice by choice.
-pub(crate) fn print_tables(entries: &[Entry<'_>], choices: &[Choice], paint: Paint, out: &mut Out) {
+pub(crate) fn print_tables(
+    entries: &[Entry<'_>],
+    choices: &[Choice],
+    known: &Known<'_>,
+    paint: Paint,
+    out: &mut Out,
+) {
     for (number, choice) in choices.iter().enumerate() {
         for entry in entries {
             if shows(choices, number, entry) {
-                print_table(entry, choice.contents, paint, out);
+                print_table(entry, choice.contents, known, paint, out);
             }
         }
     }
@@ -81,7 +90,13 @@ pub(crate) fn tell_missing(entries: &[Entry<'_>], choices: &[Choice], name: &str
 }
 
 /// Prints the contents of a table, under where it is and, unless it is valid, what the checks say.
-fn print_table(entry: &Entry<'_>, contents: Contents, paint: Paint, out: &mut Out) {
+fn print_table(
+    entry: &Entry<'_>,
+    contents: Contents,
+    known: &Known<'_>,
+    paint: Paint,
+    out: &mut Out,
+) {
     if let Contents::Dumped = contents {
         return print_dumped(entry, out);
     }
@@ -94,6 +109,12 @@ fn print_table(entry: &Entry<'_>, contents: Contents, paint: Paint, out: &mut Ou
     }
     match contents {
         Contents::Bytes => print_dump(entry.bytes, out),
+        Contents::Code if is_code(entry) => {
+            let alloc = out.allocator();
+            if show_code(alloc, known, entry, &mut CodeText { out: &mut *out }).is_err() {
+                out.refuse();
+            }
+        }
         _ => print_fields(entry, out),
     }
 }

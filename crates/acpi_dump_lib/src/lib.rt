@@ -6,6 +6,7 @@
 
 mod accepted;
 mod arguments;
+mod code;
 mod contents;
 mod document;
 mod getters;
@@ -17,3 +18,4 @@ pub mod run;
 mod summary;
 mod values;
 mod views;
+mod wanted;

@@ -13,11 +13,11 @@ use crate::values::Color;
 use crate::views::{
     Output, has_no_start, print_compared, print_input, print_rules, save_input, save_page,
 };
+use acpi_cli::storage::Storage;
 use acpi_dump_input::errors::{Log, Stop, tell};
 use acpi_dump_input::gather::gather;
 use acpi_dump_input::sources::{Sources, reason_of};
 use acpi_dump_walk::out::Out;
-use acpi_pack_lib::storage::Storage;
 use std::alloc::{AllocError, Global};
 use std::io;
 use std::io::{ErrorKind, Write};

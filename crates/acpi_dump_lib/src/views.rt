@@ -8,6 +8,7 @@ mod machine;
 mod page;
 mod read;
 mod sarif;
+mod single;
 
 ghost use Rattle.std.specs.Prelude.{◌≡◌};
 ghost use Rattle.acpi_dump_lib.specs.Asked.{asked_of};
@@ -15,17 +16,19 @@ ghost use Rattle.acpi_dump_lib.specs.Saves.{SavesOrFails, leaves_out};
 
 use crate::accepted::Accepted;
 use crate::arguments::{Request, View};
+use crate::code::code_of;
 use crate::contents::{chosen_of, print_tables, tell_missing};
 use crate::document::{Document, add_all, add_chosen};
 use crate::listing::print_lines;
 use crate::paint::Paint;
+use acpi_cli::storage::Storage;
+use acpi_dump_code::{Known, paths_of};
 use acpi_dump_input::entries::Entry;
 use acpi_dump_input::errors::{Log, Stop, tell};
 use acpi_dump_input::extract::{Saving, save_tables};
 use acpi_dump_input::gather::Input;
 use acpi_dump_input::sources::Sources;
 use acpi_dump_walk::out::Out;
-use acpi_pack_lib::storage::Storage;
 pub(crate) use compared::print_compared;
 use found::print_found;
 use judged::print_judged;
@@ -33,6 +36,7 @@ pub(crate) use judged::print_rules;
 use machine::print_summary;
 pub(crate) use page::save_page;
 use read::tables_in;
+use single::print_values;
 use std::alloc::Global;
 
 /// How a view is printed.
@@ -91,7 +95,13 @@ pub(crate) fn print_input(
         View::Candidates => print_found(output, input, out, log),
         View::Summary => print_summary(output, input, out, log),
         View::Findings => print_judged(output, input, out, log),
-        _ => print_entries(output, &tables_in(output, input, log)?.entries, out, log),
+        view => {
+            let entries = &tables_in(output, input, log)?.with_pointer(output.request)?;
+            match view {
+                View::Values => print_values(output, entries, out, log),
+                _ => print_entries(output, entries, out, log),
+            }
+        }
     }
 }
 
@@ -137,10 +147,13 @@ fn print_entries(
 ) -> Result<u8, Stop> {
     let choices = output.request.choices.as_slice();
     let is_chosen = matches!(output.request.view, View::Tables);
+    let code = &code_of(output.alloc, entries, choices)?;
+    let paths = &paths_of(output.alloc, code)?;
+    let known = &Known::new(output.alloc, paths)?;
     if output.request.is_json {
         let mut document = output.document("tables");
         let view = if is_chosen {
-            add_chosen(&mut document, entries, choices);
+            add_chosen(&mut document, entries, choices, known);
             "contents"
         } else {
             add_all(&mut document, entries);
@@ -148,7 +161,7 @@ fn print_entries(
         };
         document.print(view, out)?;
     } else if is_chosen {
-        print_tables(entries, choices, output.paint, out);
+        print_tables(entries, choices, known, output.paint, out);
     } else {
         print_lines(entries, output.paint, out);
     }

@@ -7,13 +7,13 @@ ghost use Rattle.acpi_dump_lib.specs.Saves.{SavesPaged, leaves_out};
 use super::judged::{findings_in, status_of};
 use super::read::{Tables, tables_in};
 use super::{Output, strict_status};
+use acpi_cli::storage::Storage;
 use acpi_dump_input::errors::{Log, Stop};
 use acpi_dump_input::extract::save_file;
 use acpi_dump_input::gather::Input;
 use acpi_dump_input::sources::Sources;
 use acpi_dump_page::html::{Given, Source, print_page};
 use acpi_dump_walk::out::Out;
-use acpi_pack_lib::storage::Storage;
 use std::alloc::AllocError;
 
 /// Prints the page of tables, beside the tables of a first input if there is one. Returns the status.
@@ -27,7 +27,7 @@ fn print_judged_page(
     page: &mut Out,
     log: &mut Log,
 ) -> Result<u8, Stop> {
-    let findings = &findings_in(output, tables, log)?;
+    let (findings, _) = &findings_in(output, tables, log)?;
     let source = Source {
         alloc: output.alloc,
         input: Given {

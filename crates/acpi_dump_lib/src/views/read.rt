@@ -4,26 +4,46 @@ ghost use Rattle.acpi_image_reader.specs.Words.{IsImage, memory_of as memory_in}
 ghost use Rattle.acpi_dump_input.specs.Inputs.{AreAllTables, AreTables, IsPart};
 
 use super::Output;
+use crate::arguments::Request;
 use acpi::AcpiTables;
 use acpi::sdt::{Signature, field};
 use acpi_cli::root::Root;
 use acpi_dump_check::Machine;
 use acpi_dump_input::candidates::{candidates, ebda_of, starts};
-use acpi_dump_input::entries::{Entry, bytes_from, entries_of, entries_of_files, entry_at};
+use acpi_dump_input::entries::{
+    Entry, bytes_from, entries_of, entries_of_files, entry_at, rsdp_at,
+};
 use acpi_dump_input::errors::{At, Log, Stop, begin, fail, fail_with};
 use acpi_dump_input::gather::Input;
 use acpi_image_reader::MemoryImage;
-use std::alloc::Global;
+use std::alloc::{AllocError, Global};
 
 /// The tables of an input, and what leads to them.
 #[derive(Drop)]
 pub(super) struct Tables<'i> {
     pub(super) entries: Vec<Entry<'i>>,
+    /// The RSDP of a memory, which no table lists.
+    pointer: Option<Entry<'i>>,
     rsdp: &'i [u8],
     rsdt: &'i [u8],
 }
 
-impl Tables<'_> {
+impl<'i> Tables<'i> {
+    /// The tables, and after them the RSDP of a memory if it is requested.
+    pub(super) fn with_pointer(self, request: &Request<'_>) -> Result<Vec<Entry<'i>>, AllocError> {
+        let Tables {
+            mut entries,
+            pointer,
+            ..
+        } = self;
+        if let Some(pointer) = pointer
+            && request.names_rsdp()
+        {
+            entries.push(pointer)?;
+        }
+        Ok(entries)
+    }
+
     /// The machine whose tables they are.
     pub(super) fn machine(&self, alloc: Global) -> Machine<'_> {
         Machine {
@@ -136,6 +156,7 @@ fn tables_of_files(entries: Vec<Entry<'_>>) -> Tables<'_>
         beginning_with(&entries, b"RSDT")
     };
     Tables {
+        pointer: None,
         rsdp: beginning_with(&entries, b"RSD PTR "),
         rsdt,
         entries,
@@ -154,10 +175,12 @@ fn tables_of_memory<'i>(
     let (root, tables) = &open(output, memory, log)?;
     let mut tables = Tables {
         entries: entries_of(output.alloc, memory, tables)?,
+        pointer: None,
         rsdp: &[],
         rsdt: &[],
     };
     if let Root::Rsdp { address } = root {
+        tables.pointer = Some(rsdp_at(memory, *address));
         let rsdp = bytes_from(memory, *address);
         tables.rsdp = rsdp.get(..36).unwrap_or(&[]);
         // Revision, RsdtAddress.
