@@ -1,4 +1,4 @@
-//! Prints what calls return over tables' bytes and memories, and what `acpi_view` prints of files. `scripts/check_rows`
+//! Prints what calls return over tables' bytes and memories, and what `acpi_view` prints of files. `scripts/check/rows`
 //! passes it the rows in `data/`, and compares what it prints with theirs.
 //!
 //! An argument is a file of parts, with a blank line between them. The first line of a part has a kind and the name of

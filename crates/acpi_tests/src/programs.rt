@@ -3,9 +3,9 @@
 
 use crate::checks::check;
 use acpi_cli::args_or_none;
+use acpi_cli::save::{SaveError, save};
 use acpi_pack_lib::arguments::parse_command;
 use acpi_pack_lib::run::run;
-use acpi_pack_lib::save::{SaveError, save};
 use std::alloc::Global;
 use std::io::{ErrorKind, Write};
 use std::test::Fail;
