@@ -5,12 +5,13 @@ use std::path::PathBuf;
 
 /// The signatures of the tables whose fields are known (crates/acpi_dump_walk/src/layouts).
 const SIGNATURES: &[&str] = &[
-    "all", "AEST", "AGDI", "APIC", "APMT", "ASF!", "BDAT", "BERT", "BGRT", "BOOT", "CCEL", "CEDT", "CPEP", "CSRT",
-    "DBG2", "DBGP", "DMAR", "DRTM", "DSDT", "ECDT", "EINJ", "ERST", "FACP", "FACS", "FPDT", "GTDT", "HEST", "HMAT",
-    "HPET", "IORT", "IVRS", "LPIT", "MCFG", "MCHI", "MISC", "MPAM", "MPST", "MSCT", "MSDM", "MTMR", "NFIT", "NHLT",
-    "PCCT", "PDTT", "PHAT", "PMTT", "PPTT", "PRMT", "RAS2", "RASF", "RGRT", "RHCT", "RSDT", "SBST", "SDEI", "SDEV",
-    "SLIC", "SLIT", "SPCR", "SPMI", "SRAT", "SSDT", "STAO", "SVKL", "TCPA", "TPM2", "UEFI", "VIOT", "VRTC", "WAET",
-    "WDAT", "WDDT", "WDRT", "WPBT", "WSMT", "XENV", "XSDT",
+    "all", "AEST", "AGDI", "APIC", "APMT", "ASF!", "ASPT", "BDAT", "BERT", "BGRT", "BOOT", "CCEL", "CEDT", "CPEP",
+    "CRAT", "CSRT", "DBG2", "DBGP", "DMAR", "DRTM", "DSDT", "DTPR", "ECDT", "EINJ", "ERDT", "ERST", "FACP", "FACS",
+    "FPDT", "GTDT", "HEST", "HMAT", "HPET", "IBFT", "IORT", "IOVT", "IVRS", "KEYP", "LPIT", "MCFG", "MCHI", "MISC",
+    "MPAM", "MPST", "MRRM", "MSCT", "MSDM", "MTMR", "NBFT", "NFIT", "NHLT", "PCCT", "PDTT", "PHAT", "PMTT", "PPTT",
+    "PRMT", "RAS2", "RASF", "RGRT", "RHCT", "RIMT", "RSDP", "RSDT", "SBST", "SDEI", "SDEV", "SLIC", "SLIT", "SPCR",
+    "SPMI", "SRAT", "SSDT", "STAO", "SVKL", "SWFT", "TCPA", "TDEL", "TPM2", "UEFI", "VFCT", "VIOT", "VRTC", "WAET", "WDAT",
+    "WDDT", "WDRT", "WPBT", "WSMT", "XENV", "XSDT",
 ];
 
 /// What the values of options are: words for some, and files and folders.
@@ -23,11 +24,12 @@ const WORDS: [(&str, &[&str]); 7] = [
     ("sort", &["table", "rule", "severity"]),
     ("color", &["auto", "always", "never"]),
 ];
-const HINTS: [(&str, ValueHint); 5] = [
+const HINTS: [(&str, ValueHint); 6] = [
     ("extract", ValueHint::DirPath),
     ("html", ValueHint::FilePath),
     ("baseline", ValueHint::FilePath),
     ("ignore-rules", ValueHint::FilePath),
+    ("base", ValueHint::AnyPath),
     ("input", ValueHint::AnyPath),
 ];
 

@@ -177,6 +177,11 @@ impl<'w> ArgMatches<'w> {
         self.get_strs(id)?.first().copied()
     }
 
+    /// The options and words that there are.
+    pub fn names(&self) -> impl Iterator<Item = &str> {
+        self.0.iter().map(|(name, _)| name.as_str())
+    }
+
     pub fn get_flag(&self, id: &str) -> bool {
         self.get_strs(id).is_some()
     }

@@ -5,10 +5,10 @@
 #![allow(unused_imports)]
 
 use acpi_dump::cli::borrowed;
+use acpi_dump::cli::storage::HostStorage;
 use acpi_dump::dump::parser::OptionParser;
 use acpi_dump::dump::run::{dump, refuse_arguments};
 use acpi_dump::input::sources::HostSources;
-use acpi_dump::pack::storage::HostStorage;
 use acpi_dump::rattle::env;
 use acpi_dump::rattle::io;
 use acpi_dump::rattle::process::ExitCode;
@@ -37,6 +37,9 @@ fn status(rt: &HostRuntime) -> io::Result<u8> {
         Ok(arguments) => borrowed(rt.alloc(), arguments)?,
         Err(refusal) => return refuse_arguments(refusal, rt.stderr()),
     };
+    if let Some(status) = acpi_dump::fleet_status(&arguments) {
+        return Ok(status);
+    }
     let (mut sources, mut storage) = (HostSources::new(rt), HostStorage::new(rt));
     dump(rt.alloc(), &OptionParser, &arguments, &mut sources, &mut storage, io::writer(rt), rt.stderr())
 }

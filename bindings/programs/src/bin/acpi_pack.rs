@@ -9,10 +9,10 @@
 #![forbid(unsafe_code)]
 #![allow(unused_imports)]
 
-use acpi_dump::cli::files::HostFiles;
+use acpi_dump::cli::storage::HostStorage;
 use acpi_dump::cli::{args, borrowed};
+use acpi_dump::pack::files::HostFiles;
 use acpi_dump::pack::program::pack;
-use acpi_dump::pack::storage::HostStorage;
 use acpi_dump::rattle::HostRuntime;
 use acpi_dump::rattle::io;
 use acpi_dump::rattle::process::ExitCode;

@@ -13,13 +13,14 @@
 //!   in a field (`| TITLE > FIELD`). `of/NUMBER` lets that number be without one.
 //!
 //! Of a field's rows with a range or `named`, the first one that isn't met is found.
-//! `scripts/check_rules` finds a row whose rule, structure or field isn't there.
+//! `scripts/check/rules` finds a row whose rule, structure or field isn't there.
 
 use crate::check::fields::ROWS;
 use crate::check::findings::Findings;
 use crate::check::numbers::Numbers;
 use crate::input::entries::own_signature;
 use crate::rattle::Pieces;
+use crate::rattle::Vec;
 use crate::walk::fields::{number_of as number_in, unnamed_in};
 use crate::walk::language::{cut_at, is_chosen, next_word, number_at, number_of};
 use crate::walk::walk::{Field, Group, Show, walk_table};
@@ -99,7 +100,7 @@ fn meets(number: u64, test: &str) -> bool {
 /// The judgement of a table by its rows, as a walk comes to its fields.
 struct Judged<'f> {
     findings: &'f mut Findings,
-    lines: &'static str,
+    rows: &'f [Row],
     /// The titles of the structures that the walk is in, the outermost first, which is the table.
     titles: [&'static str; DEPTH],
     depth: usize,
@@ -121,9 +122,9 @@ impl Show for Judged<'_> {
             *title = group.name;
         }
         self.depth = depth;
-        let (lines, mut list) = (self.lines, 1u64);
-        for line in lines.pieces('\n') {
-            if Row::read(line).is_of(group.name, "") {
+        let (rows, mut list) = (self.rows, 1u64);
+        for row in rows {
+            if row.is_of(group.name, "") {
                 self.numbers.push(list, group.offset, group.offset as usize);
             }
             list = list.saturating_add(2);
@@ -136,9 +137,8 @@ impl Show for Judged<'_> {
 
     fn field(&mut self, shown: &Field<'_>) {
         let (title, offset) = (self.title(), shown.offset as usize);
-        let (lines, mut list) = (self.lines, 0u64);
-        for line in lines.pieces('\n') {
-            let row = Row::read(line);
+        let (rows, mut list) = (self.rows, 0u64);
+        for row in rows {
             let number = number_from(shown.bytes, row.place);
             if row.is_of(title, shown.label.name) {
                 self.numbers.push(list.saturating_add(1), number, offset);
@@ -164,11 +164,13 @@ impl Show for Judged<'_> {
 }
 
 /// Judges the numbers of a table that aren't judged alone. The lists are sorted.
-fn judge_numbers(lines: &'static str, numbers: &Numbers, findings: &mut Findings) {
+fn judge_numbers(rows: &[Row], numbers: &Numbers, findings: &mut Findings) {
     let mut before = (u64::MAX, 0u64, 0usize);
     for (list, number, offset) in numbers.all.iter() {
         let (list, number, offset) = (*list, *number, *offset);
-        let row = Row::read(lines.pieces('\n').nth((list / 2) as usize).unwrap_or(""));
+        let Some(row) = rows.get((list / 2) as usize) else {
+            break;
+        };
         let is_wrong = if row.test == "once" {
             before.0 == list && before.1 == number
         } else {
@@ -184,11 +186,15 @@ fn judge_numbers(lines: &'static str, numbers: &Numbers, findings: &mut Findings
 /// Judges a table by the rows that lines are.
 fn check_lines(table: &[u8], lines: &'static str, findings: &mut Findings) {
     let numbers = Numbers::new(findings.alloc);
-    let mut judged = Judged { findings, lines, titles: ["-"; DEPTH], depth: 0, numbers };
+    let mut rows = Vec::new(findings.alloc);
+    for line in lines.pieces('\n') {
+        findings.need(rows.push(Row::read(line)).is_ok());
+    }
+    let mut judged = Judged { findings, rows: &rows, titles: ["-"; DEPTH], depth: 0, numbers };
     walk_table(own_signature(table), table, &mut judged);
     let Judged { findings, mut numbers, .. } = judged;
     findings.need(numbers.sort());
-    judge_numbers(lines, &numbers, findings);
+    judge_numbers(&rows, &numbers, findings);
 }
 
 /// Judges a table by the rows of its signature.

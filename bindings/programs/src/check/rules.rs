@@ -8,6 +8,21 @@ use crate::rattle::Vec;
 use crate::rattle::alloc::{AllocError, Global};
 use crate::walk::language::{cut_at, next_word};
 
+/// The rule that a line is, if it is one.
+fn rule_in(line: &'static str) -> Option<Rule> {
+    let (id, line) = next_word(line);
+    let (severity, line) = next_word(line);
+    let (section, line) = cut_at(line, '|');
+    let (what, message) = cut_at(line, '|');
+    Some(Rule {
+        id,
+        severity: Severity::read(severity)?,
+        section: section.trim_ascii(),
+        what: what.trim_ascii(),
+        message: message.trim_ascii(),
+    })
+}
+
 /// All rules, subject by subject.
 ///
 /// Fails if memory runs out.
@@ -15,18 +30,8 @@ pub fn rules(alloc: Global) -> Result<Vec<Rule>, AllocError> {
     let mut all = Vec::new(alloc);
     for subject in &subjects() {
         for line in subject.pieces('\n') {
-            let (id, line) = next_word(line);
-            let (severity, line) = next_word(line);
-            let (section, line) = cut_at(line, '|');
-            let (what, message) = cut_at(line, '|');
-            if let Some(severity) = Severity::read(severity) {
-                all.push(Rule {
-                    id,
-                    severity,
-                    section: section.trim_ascii(),
-                    what: what.trim_ascii(),
-                    message: message.trim_ascii(),
-                })?;
+            if let Some(rule) = rule_in(line) {
+                all.push(rule)?;
             }
         }
     }

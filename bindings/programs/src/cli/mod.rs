@@ -1,5 +1,5 @@
 // Made by scripts/erase of crates/acpi_cli/src/lib.rt, where it is proved.
-//! Code that the programs share: arguments, the way to the root table that they name, and files that are read.
+//! Code that the programs share: arguments, the way to the root table that they name, and files that are saved.
 
 #![forbid(unsafe_code)]
 // What contracts alone use.
@@ -7,8 +7,9 @@
 // It is written as it is proved.
 #![allow(clippy::style, clippy::complexity, clippy::perf, clippy::manual_unwrap_or_default)]
 
-pub mod files;
 pub mod root;
+pub mod save;
+pub mod storage;
 
 use crate::rattle::alloc::{AllocError, Global};
 use crate::rattle::env;

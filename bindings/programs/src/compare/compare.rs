@@ -1,14 +1,18 @@
 // Made by scripts/erase of crates/acpi_dump_compare/src/compare.rt, where it is proved.
 //! What differs between the tables of two inputs.
 
+pub mod code;
 mod objects;
 mod pairs;
+mod pieces;
 
+use crate::code::Known as Names;
 use crate::compare::outline::{Side, items_of};
 use crate::input::entries::{Entry, print_name};
 use crate::rattle::Vec;
 use crate::rattle::alloc::{AllocError, Global};
 use crate::walk::out::Out;
+use code::{Code, names_in};
 use objects::{Known, changes_of};
 use pairs::pairs_of;
 
@@ -41,13 +45,15 @@ pub struct Difference<'a> {
     pub side: Title<'a>,
     pub part: usize,
     pub offset: u64,
-    pub name: &'static str,
+    pub name: &'a str,
     pub old: Option<&'a str>,
     pub new: Option<&'a str>,
     /// The number of the field in the first table, if it has it.
     pub was: Option<usize>,
     /// The number of the field or of the structure in the second table, if it has it.
     pub place: Option<usize>,
+    /// The lines of a method that differ.
+    pub code: Code<'a>,
 }
 
 /// Of the items that are left on two sides the numbers of those that come now: of the first one, or of both if they are
@@ -88,6 +94,7 @@ impl<'a> Found<'a, '_, '_> {
                 new,
                 was,
                 place,
+                code: Code::NONE,
             })
         }
     }
@@ -129,6 +136,7 @@ impl<'a> Found<'a, '_, '_> {
             new,
             was: None,
             place,
+            code: Code::NONE,
         })
     }
 
@@ -237,6 +245,7 @@ fn print_found(old: &Entry<'_>, new: &Entry<'_>, found: &[Difference<'_>], names
                 out.text("\n");
             }
             print_difference(difference, out);
+            difference.code.print(out);
         }
     }
 }
@@ -270,12 +279,13 @@ fn compare_pair<'e, S: ShowDifferences>(
     alloc: Global,
     old: &Entry<'e>,
     new: &Entry<'e>,
+    names: (&Names<'_>, &Names<'_>),
     ignored: &[&str],
     show: &mut S,
 ) -> Result<bool, AllocError> {
     let (items, others) = (items_of(alloc, old), items_of(alloc, new));
     let (was, is) = (items.side()?, others.side()?);
-    let changes = changes_of(alloc, was, is, ignored)?;
+    let changes = changes_of(alloc, was, is, names, ignored)?;
     let (front, other_front) = (was.without_objects(), is.without_objects());
     let found = changes.after(differences(alloc, front, other_front, ignored)?)?;
     if !found.is_empty() {
@@ -295,12 +305,14 @@ pub fn compare<S: ShowDifferences>(
     ignored: &[&str],
     show: &mut S,
 ) -> Result<bool, AllocError> {
+    let (was, is) = (&names_in(alloc, old)?, &names_in(alloc, new)?);
+    let names = (&Names::new(alloc, was)?, &Names::new(alloc, is)?);
     let mut any = false;
     for index in 0..old.len() {
         if let Some(number) = same_in(old, index, new)
             && let Some(other) = new.get(number)
         {
-            any |= compare_pair(alloc, &old[index], other, ignored, show)?;
+            any |= compare_pair(alloc, &old[index], other, names, ignored, show)?;
         } else {
             any = true;
             show.alone(true, &old[index]);

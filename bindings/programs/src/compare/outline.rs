@@ -26,6 +26,11 @@ const UNKNOWN: &str = "unknown";
 /// The ends of the names of fields that tell structures of one type apart.
 const IDS: &str = "ID|Source|MPIDR|Segment Group Number|Segment Number|Proximity Domain";
 
+/// The ends of the names of those that several structures of one type have, and of the fields that tell these apart.
+const SHARED: &str = "Segment Number|Proximity Domain";
+
+const OTHERS: &str = "ID|Base Address";
+
 /// A field or a run of bytes: the structure that it is in, where it is in the table and in the structure, its name, and
 /// where its value is in the text of all values. An object's has what it is as its name, its path as its value, and the
 /// bytes up to the first object in it.
@@ -60,6 +65,8 @@ pub struct Part {
     pub(crate) last: usize,
     /// The number of the first field that tells it apart, or of the item of an object that has a path.
     pub(crate) id: Option<usize>,
+    /// The number of the next one, if several structures have the first.
+    other_id: Option<usize>,
     /// Between which offsets an object's own bytes are.
     pub own: Option<(u64, u64)>,
 }
@@ -85,9 +92,9 @@ pub struct Items<'t> {
     is_refused: bool,
 }
 
-/// Whether a field of this name tells structures apart.
-fn is_id(name: &str) -> bool {
-    for end in IDS.pieces('|') {
+/// Whether a name ends with one of these.
+fn ends_with(name: &str, ends: &str) -> bool {
+    for end in ends.pieces('|') {
         if name.ends_with(end) {
             return true;
         }
@@ -129,7 +136,28 @@ impl Items<'_> {
             first: self.items.len(),
             last: 0,
             id: None,
+            other_id: None,
             own: None,
+        }
+    }
+
+    /// Notes that the next item, of this name, tells the structure apart that is open, if it does.
+    fn note_id(&mut self, name: &str) {
+        let item = self.items.len();
+        let first = match self.parts.get(self.open) {
+            Some(part) => part.id,
+            None => return,
+        };
+        let is_shared = match self.items.get(first.unwrap_or(item)) {
+            Some(id) => ends_with(id.name, SHARED),
+            None => false,
+        };
+        if let Some(part) = self.parts.get_mut(self.open) {
+            if first.is_none() && ends_with(name, IDS) {
+                part.id = Some(item);
+            } else if is_shared && part.other_id.is_none() && ends_with(name, OTHERS) {
+                part.other_id = Some(item);
+            }
         }
     }
 
@@ -189,13 +217,7 @@ impl Show for Items<'_> {
         print_value(shown, &mut self.values);
         let places = (start, self.values.length());
         print_meaning(shown, &mut self.values);
-        let item = self.items.len();
-        if let Some(part) = self.parts.get_mut(self.open)
-            && part.id.is_none()
-            && is_id(shown.label.name)
-        {
-            part.id = Some(item);
-        }
+        self.note_id(shown.label.name);
         self.add(shown.offset, shown.bytes.len() as u64, shown.label.name, places);
         if let Some(item) = self.items.last_mut() {
             item.number = shown.number;
@@ -390,15 +412,37 @@ impl<'a> Side<'a> {
         }
     }
 
-    /// Prints the field that tells a structure apart, or its place.
-    fn print_id(self, part: &Part, out: &mut Out) {
+    /// The values of the fields that tell a structure apart, or the path of an object.
+    pub(crate) fn ids(self, part: &Part) -> (&'a str, &'a str) {
         match self.item(part.id) {
-            Some(path) if part.own.is_some() => out.fill(" $", &[self.digits(path)]),
-            Some(id) => {
-                out.fill(", $ ", &[id.name]);
-                out.text(self.value(part.id).unwrap_or(""))
-            }
+            Some(path) if part.own.is_some() => (self.digits(path), ""),
+            _ => (self.value(part.id).unwrap_or(""), self.value(part.other_id).unwrap_or("")),
+        }
+    }
+
+    /// The values of a structure and of those in it, as one text.
+    pub(crate) fn contents(self, part: usize) -> &'a str {
+        let places = self.places(part);
+        let last = places.end.checked_sub(1);
+        match (self.items.get(places.start), self.item(last)) {
+            (Some(first), Some(last)) => self.values.get(first.start..last.end).unwrap_or(""),
+            _ => "",
+        }
+    }
+
+    /// Prints the fields that tell a structure apart, or its place.
+    fn print_id(self, part: &Part, out: &mut Out) {
+        let (id, other) = self.ids(part);
+        let names = (self.item(part.id), self.item(part.other_id));
+        match names.0 {
+            Some(_) if part.own.is_some() => out.text(" "),
+            Some(name) => out.fill(", $ ", &[name.name]),
             None => out.words(" %", &[part.place]),
+        }
+        out.text(id);
+        if let Some(name) = names.1 {
+            out.fill(", $ ", &[name.name]);
+            out.text(other)
         }
     }
 }

@@ -5,7 +5,7 @@ use crate::check::rules::rules;
 use crate::dump::arguments::Request;
 use crate::input::entries::{Entry, own_signature};
 use crate::input::errors::{Log, Stop, fail, tell};
-use crate::input::judgement::{Finding, Judgement};
+use crate::input::judgement::{Finding, Judgement, Rule};
 use crate::input::sources::{Sources, reason_of};
 use crate::json::{Error, Scratch, Value};
 use crate::rattle::Pieces;
@@ -36,17 +36,21 @@ struct Fault<'f> {
     message: &'f str,
 }
 
+/// Whether a finding of an earlier check has a text in a member, or no such member if the text has no letters.
+fn has(earlier: &Value<'_>, name: &str, text: &str) -> bool {
+    match earlier.get(name) {
+        Some(value) => value.as_str() == Some(text),
+        None => text.is_empty(),
+    }
+}
+
 impl Fault<'_> {
     /// Whether a finding of an earlier check is of it.
     fn is_in(self, earlier: &Value<'_>) -> bool {
-        let has = |name: &str, text: &str| match earlier.get(name) {
-            Some(value) => value.as_str() == Some(text),
-            None => text.is_empty(),
-        };
-        has("rule", self.rule)
-            && has("signature", self.table)
-            && has("field", self.field)
-            && has("message", self.message)
+        has(earlier, "rule", self.rule)
+            && has(earlier, "signature", self.table)
+            && has(earlier, "field", self.field)
+            && has(earlier, "message", self.message)
     }
 }
 
@@ -141,17 +145,17 @@ fn add<T: Copy>(list: &mut Vec<T>, item: T) -> Result<(), AllocError> {
     Ok(())
 }
 
-/// Whether there is a rule of this name.
-fn is_rule(alloc: Global, name: &str) -> Result<bool, AllocError> {
-    Ok(rules(alloc)?.iter().any(|rule| rule.id == name))
-}
-
-/// The number of the day of a date `YYYY-MM-DD` of the Gregorian calendar: how many days after 1970-01-01 it is.
-fn day_of(date: &str) -> Option<u64> {
+/// The year, the month and the day of a date `YYYY-MM-DD`, as they are there.
+fn numbers_in(date: &str) -> Option<[u64; 3]> {
     let (year, rest) = date.two_pieces('-')?;
     let (month, day) = rest.two_pieces('-')?;
     let (year, month) = (year.parse::<u64>().ok()?, month.parse::<u64>().ok()?);
-    let day = day.parse::<u64>().ok()?;
+    Some([year, month, day.parse::<u64>().ok()?])
+}
+
+/// The number of the day of a date of the Gregorian calendar: how many days after 1970-01-01 it is.
+fn day_of(date: &str) -> Option<u64> {
+    let [year, month, day] = numbers_in(date)?;
     let is_date = (1970..=9999).contains(&year) && (1..=12).contains(&month);
     if !is_date || !(1..=31).contains(&day) {
         return None;
@@ -166,29 +170,29 @@ impl<'l> Line<'l> {
     /// What a line accepts on a day, whose text has no blanks around it.
     ///
     /// Fails, with what is wrong, if the line names no rule, or no reason, or no date after `until`.
-    fn read(alloc: Global, text: &'l str, today: Option<u64>) -> Result<Result<Line<'l>, &'static str>, AllocError> {
+    fn read(number: usize, text: &'l str, rules: &[Rule], today: Option<u64>) -> Result<Line<'l>, &'static str> {
         let (faults, reason) = text.two_pieces(':').unwrap_or((text, ""));
         if reason.trim_ascii().is_empty() {
-            return Ok(Err("has no reason after a colon"));
+            return Err("has no reason after a colon");
         }
         let (faults, date) = faults.split_once(" until ").unwrap_or((faults, ""));
         let end = day_of(date.trim_ascii());
         if !date.is_empty() && end.is_none() {
-            return Ok(Err("has no date YYYY-MM-DD after until"));
+            return Err("has no date YYYY-MM-DD after until");
         }
         let (rule, rest) = next_word(faults);
         let (table, field) = next_word(rest);
-        if !is_rule(alloc, rule)? {
-            return Ok(Err("names no rule: --rules lists them"));
+        if !rules.iter().any(|it| it.id == rule) {
+            return Err("names no rule: --rules lists them");
         }
-        Ok(Ok(Line {
-            number: 0,
+        Ok(Line {
+            number,
             rule,
             table,
             field: field.trim_ascii(),
             is_over: end.is_some_and(|end| today.is_none_or(|today| end < today)),
             is_used: false,
-        }))
+        })
     }
 }
 
@@ -223,14 +227,15 @@ impl<'w> Accepted<'w> {
         let Ok(text) = str::from_utf8(&self.lines) else {
             return Err(fail(log, name, &"it is not UTF-8"));
         };
+        let rules = &rules(alloc)?;
         for (before, text) in text.lines().enumerate() {
             let text = text.trim_ascii();
             if text.is_empty() || text.starts_with('#') {
                 continue;
             }
             let number = before.saturating_add(1);
-            match Line::read(alloc, text, self.today)? {
-                Ok(line) => add(&mut lines, Line { number, ..line })?,
+            match Line::read(number, text, rules, self.today) {
+                Ok(line) => add(&mut lines, line)?,
                 Err(why) => {
                     let why = format_args!("line {number} {why}");
                     return Err(fail(log, name, &why));
@@ -308,6 +313,18 @@ fn findings_in<'d, 'v>(document: &'d Value<'v>) -> Option<&'d [Value<'v>]> {
     }
 }
 
+/// Whether an earlier check has a finding in a table of a signature, or lines accept it.
+fn is_known(
+    findings: &Judgement,
+    finding: &Finding,
+    table: &str,
+    earlier: &mut Earlier<'_, '_>,
+    lines: &mut Vec<Line<'_>>,
+) -> bool {
+    let fault = Fault { rule: finding.rule.id, table, field: finding.field, message: findings.message(finding) };
+    earlier.finds(fault) || is_accepted(lines, fault)
+}
+
 /// The findings that neither an earlier check has nor lines accept.
 ///
 /// Fails if memory runs out.
@@ -321,19 +338,12 @@ fn rest_after(
     let mut rest = Vec::new(alloc);
     let mut table = Out::new(alloc);
     for finding in findings.list() {
-        let signature = match entries.get(finding.table) {
-            Some(entry) => own_signature(entry.bytes).to_bytes(),
-            None => [0, 0, 0, 0],
-        };
         table.clear();
-        print_text(&signature, &mut table);
-        let fault = Fault {
-            rule: finding.rule.id,
-            table: table.printed().unwrap_or(""),
-            field: finding.field,
-            message: findings.message(finding),
-        };
-        if !earlier.finds(fault) && !is_accepted(lines, fault) {
+        if let Some(entry) = entries.get(finding.table) {
+            print_text(&own_signature(entry.bytes).to_bytes(), &mut table);
+        }
+        let letters = table.printed().unwrap_or("");
+        if !is_known(findings, finding, letters, earlier, lines) {
             rest.push(*finding)?;
         }
     }

@@ -5,7 +5,10 @@ use crate::arguments::ArgMatches;
 use crate::cli::parse_address;
 use crate::cli::root::{Root, parse_root};
 use crate::dump::options::{Choice, Contents, refuse, refuse_option};
-use crate::dump::values::{Color, Format, Order, parse_color, parse_format, parse_order, parse_signature, parse_start};
+use crate::dump::values::{
+    Color, Format, Order, is_rsdp, parse_color, parse_format, parse_order, parse_signature, parse_start,
+};
+use crate::dump::wanted::{Wanted, check_wanted};
 use crate::input::errors::{Log, Stop};
 use crate::input::judgement::Severity;
 use crate::input::kind::{Kind, parse_kind};
@@ -21,6 +24,8 @@ pub(crate) enum View {
     Lines,
     /// The contents of the tables that are chosen.
     Tables,
+    /// Single values of tables.
+    Values,
     /// The RSDPs that there are.
     Candidates,
     /// The machine in short.
@@ -48,6 +53,8 @@ pub(crate) struct Request<'w> {
     pub(crate) view: View,
     /// The tables whose contents are shown, in this order.
     pub(crate) choices: Vec<Choice>,
+    /// The words of the values that are shown, in this order.
+    pub(crate) wanted: &'w [&'w str],
     /// The folder in which each table is to be a file.
     pub(crate) folder: Option<&'w str>,
     /// The file that a page is to be.
@@ -75,8 +82,8 @@ pub(crate) struct Request<'w> {
 const VIEWS: [(&str, View); 4] =
     [("summary", View::Summary), ("find", View::Candidates), ("compare", View::Differences), ("rules", View::Rules)];
 
-const ONE_VIEW: &str = "[--table SIG].. [--hex SIG].. | --text [--table SIG].. | --extract DIR [--table SIG].. | \
-     [--check] --html FILE | --summary | --find | --compare [--html FILE] | --check | --rules";
+const ONE_VIEW: &str = "[--table SIG].. [--hex SIG].. | --get VALUE.. | --text [--table SIG].. | \
+     --extract DIR [--table SIG].. | [--check] --html FILE | --summary | --find | --compare [--html FILE] | --check | --rules";
 
 /// The word of an option, or no letters, which are no value of any, if it isn't there.
 fn word_of<'w>(matches: &ArgMatches<'w>, option: &str) -> &'w str {
@@ -153,14 +160,25 @@ impl Request<'_> {
     /// Adds the tables whose contents are chosen: in acpidump's text all of them, unless some are named.
     fn add_contents(&mut self, matches: &ArgMatches<'_>, log: &mut Log) -> Result<(), Stop> {
         let is_text = matches.get_flag("text");
-        let (of_table, of_hex) =
-            if is_text { (Contents::Dumped, Contents::Dumped) } else { (Contents::Fields, Contents::Bytes) };
+        let (of_table, of_hex) = if is_text {
+            (Contents::Dumped, Contents::Dumped)
+        } else if matches.get_flag("code") {
+            (Contents::Code, Contents::Bytes)
+        } else {
+            (Contents::Fields, Contents::Bytes)
+        };
         self.add_choices(matches, log, "table", of_table)?;
         self.add_choices(matches, log, "hex", of_hex)?;
         if is_text && self.choices.is_empty() {
             self.choose(None, Contents::Dumped)?;
         }
         Ok(())
+    }
+
+    /// Whether the RSDP is chosen, or a value in it.
+    pub(crate) fn names_rsdp(&self) -> bool {
+        let mut choices = self.choices.iter();
+        choices.any(|choice| choice.signature.is_some_and(is_rsdp)) || self.wanted.iter().any(|word| is_in_rsdp(*word))
     }
 
     /// Takes a view, which has to be the only one.
@@ -174,6 +192,10 @@ impl Request<'_> {
 
     /// Adds the view that the options ask for, of which at most one kind may be there.
     fn add_view(&mut self, matches: &ArgMatches<'_>, log: &mut Log) -> Result<(), Stop> {
+        if matches.get_flag("fleet") {
+            let why = "fleets are read by the program that cargo builds";
+            return Err(refuse_option(log, "fleet", why));
+        }
         let is_text = matches.get_flag("text");
         let are_files = self.folder.is_some() && matches.get_strs("hex").is_none();
         if !self.choices.is_empty() && (!are_files || is_text) {
@@ -183,6 +205,10 @@ impl Request<'_> {
             if matches.get_flag(*option) {
                 self.take_view(*view, log)?;
             }
+        }
+        check_wanted(self.wanted, log)?;
+        if !self.wanted.is_empty() {
+            self.take_view(View::Values, log)?;
         }
         if self.folder.is_some() {
             self.take_view(View::Files, log)?;
@@ -208,11 +234,20 @@ impl Request<'_> {
         let is_checked = matches!(self.view, View::Findings);
         let is_compared = matches!(self.view, View::Differences);
         let are_saved = self.folder.is_some() || self.page.is_some();
+        let are_chosen = matches!(self.view, View::Tables) && matches.get_strs("table").is_some();
         let are_lines = is_checked && self.page.is_none() && !self.is_json;
         let options = [
+            (
+                "code",
+                matches.get_flag("code"),
+                are_chosen && !matches.get_flag("text"),
+                "it is for --table, without --text",
+            ),
             ("ignore", !self.ignored.is_empty(), is_compared, "it is for --compare"),
             ("exit-code", self.is_exit_code, is_compared, "it is for --compare"),
             ("force", self.is_forced, are_saved, "it is for --extract and --html"),
+            ("base", matches.get_str("base").is_some(), false, "it is for --fleet"),
+            ("alike", matches.get_flag("alike"), false, "it is for --fleet"),
             ("baseline", self.baseline.is_some(), is_checked, "it is for --check"),
             ("ignore-rules", self.accepted.is_some(), is_checked, "it is for --check"),
             ("format", matches.get_str("format").is_some(), are_lines, "it is for --check, without --html or --json"),
@@ -241,6 +276,19 @@ impl Request<'_> {
             self.reading.kind = Some(Kind::Image);
         }
         Ok(())
+    }
+}
+
+/// The words of an option that may come several times.
+fn words_of<'m>(matches: &'m ArgMatches<'_>, option: &str) -> &'m [&'m str] {
+    matches.get_strs(option).unwrap_or(&[])
+}
+
+/// Whether a word requests a value in the RSDP.
+fn is_in_rsdp(word: &str) -> bool {
+    match Wanted::read(word) {
+        Some(wanted) => is_rsdp(wanted.signature),
+        None => false,
     }
 }
 
@@ -282,8 +330,9 @@ pub(crate) fn request_of<'m>(alloc: Global, matches: &'m ArgMatches<'_>, log: &m
         color: checked(matches, log, "color", color)?.unwrap_or(Color::Auto),
         view: View::Lines,
         choices: Vec::new(alloc),
+        wanted: words_of(matches, "get"),
         inputs: matches.get_strs("input").unwrap_or(&[]),
-        ignored: matches.get_strs("ignore").unwrap_or(&[]),
+        ignored: words_of(matches, "ignore"),
         is_forced: matches.get_flag("force"),
         is_json: matches.get_flag("json"),
         is_strict: matches.get_flag("strict"),

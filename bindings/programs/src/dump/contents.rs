@@ -1,6 +1,9 @@
 // Made by scripts/erase of crates/acpi_dump_lib/src/contents.rt, where it is proved.
 //! The contents of chosen tables.
 
+use crate::code::Known;
+use crate::code::text::CodeText;
+use crate::dump::code::{is_code, show_code};
 use crate::dump::getters::print_getters;
 use crate::dump::options::{Choice, Contents};
 use crate::dump::paint::Paint;
@@ -55,11 +58,11 @@ pub(crate) fn chosen_of<'l>(
 }
 
 /// Prints the tables that are chosen, choice by choice.
-pub(crate) fn print_tables(entries: &[Entry<'_>], choices: &[Choice], paint: Paint, out: &mut Out) {
+pub(crate) fn print_tables(entries: &[Entry<'_>], choices: &[Choice], known: &Known<'_>, paint: Paint, out: &mut Out) {
     for (number, choice) in choices.iter().enumerate() {
         for entry in entries {
             if shows(choices, number, entry) {
-                print_table(entry, choice.contents, paint, out);
+                print_table(entry, choice.contents, known, paint, out);
             }
         }
     }
@@ -77,7 +80,7 @@ pub(crate) fn tell_missing(entries: &[Entry<'_>], choices: &[Choice], name: &str
 }
 
 /// Prints the contents of a table, under where it is and, unless it is valid, what the checks say.
-fn print_table(entry: &Entry<'_>, contents: Contents, paint: Paint, out: &mut Out) {
+fn print_table(entry: &Entry<'_>, contents: Contents, known: &Known<'_>, paint: Paint, out: &mut Out) {
     if let Contents::Dumped = contents {
         return print_dumped(entry, out);
     }
@@ -90,6 +93,12 @@ fn print_table(entry: &Entry<'_>, contents: Contents, paint: Paint, out: &mut Ou
     }
     match contents {
         Contents::Bytes => print_dump(entry.bytes, out),
+        Contents::Code if is_code(entry) => {
+            let alloc = out.allocator();
+            if show_code(alloc, known, entry, &mut CodeText { out: &mut *out }).is_err() {
+                out.refuse();
+            }
+        }
         _ => print_fields(entry, out),
     }
 }

@@ -3,6 +3,7 @@
 //!
 //! The members of an object stand in the order of their names.
 
+mod constants;
 mod machine;
 mod tables;
 
@@ -13,9 +14,10 @@ use crate::rattle::alloc::{AllocError, Global};
 use crate::walk::aml::{Ends, Object, Value};
 use crate::walk::fault::Fault;
 use crate::walk::fields::{number_of, print_hex, print_meaning, print_path, print_text, print_value};
-use crate::walk::language::Meaning;
+use crate::walk::language::{Meaning, cut_at};
 use crate::walk::out::Out;
 use crate::walk::walk::{Field, Group, Show, ShowObjects};
+use constants::add_typed;
 use core::fmt::Display;
 pub(crate) use machine::{add_fact_lines, add_machine};
 pub(crate) use tables::{add_all, add_chosen};
@@ -167,6 +169,24 @@ impl<'d> Document<'d> {
         }
     }
 
+    /// Adds texts by their names, which stand in one text; of a name such as `help.text` an object with the text alone.
+    /// One without letters is left out.
+    pub(crate) fn texts(&mut self, names: &str, texts: &[&str]) {
+        for (name, text) in names.pieces(' ').zip(texts) {
+            if text.is_empty() {
+                continue;
+            }
+            let (outer, inner) = cut_at(name, '.');
+            if inner.is_empty() {
+                self.text(name, *text);
+            } else {
+                self.begin_object(outer);
+                self.text(inner, *text);
+                self.token(Token::EndObject);
+            }
+        }
+    }
+
     /// Adds an object with why no more is shown from an offset on, which is drafted.
     fn reason(&mut self, name: &str, offset: u64) {
         self.token(Token::BeginObject);
@@ -306,7 +326,8 @@ impl ShowObjects for Document<'_> {
         if !matches!(object.value, Value::Hidden) {
             let path = object.path.unwrap_or(&[]);
             object.value.print(path, "; ", &mut self.draft);
-            self.drafted("value");
+            self.drafted("text");
+            add_typed(self, path, object.value);
         }
         self.token(Token::EndObject);
     }

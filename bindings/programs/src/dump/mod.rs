@@ -12,6 +12,7 @@
 
 mod accepted;
 mod arguments;
+mod code;
 mod contents;
 mod document;
 mod getters;
@@ -23,3 +24,4 @@ pub mod run;
 mod summary;
 mod values;
 mod views;
+mod wanted;

@@ -16,6 +16,8 @@ at ADDRESS The address of raw memory's first byte
 start START The way to the root table: rsdt:REVISION:ADDRESS, rsdp:ADDRESS or bios
 table,t SIG.. The fields of the tables of a signature, or of all
 hex SIG.. The bytes of the tables of a signature, or of all
+code - With --table: the operations of AML, one a line
+get VALUE.. One value a line, for scripts: SIG.FIELD, SIG.ENTRY.FIELD or SIG:OBJECT
 text - The text of acpidump, of all tables or of those of --table
 extract,o DIR Each table, or those of --table, as a file in this folder: SIG.dat, or SIG1.dat and so on
 html FILE A page of all of it: the machine drawn, what rules find, and each table's fields beside its bytes; - prints it
@@ -28,6 +30,9 @@ ignore-rules FILE Findings that are accepted, and left out: lines RULE [SIG [FIE
 format FORMAT What --check prints in place of lines: sarif or junit
 sort KEY The order of what --check finds: by table, rule or severity
 rules - The rules of --check
+fleet - Each input as machines, of which a folder has many: their groups, and what differs
+base INPUT The machine with which those of --fleet are compared, in place of the largest group's first
+alike - Fields that differ between machines of one kind are left out of --fleet: addresses, sums, serial numbers
 compare,c - What differs between two inputs
 exit-code - Status 1 if two inputs differ
 ignore FIELD.. Fields that are left out of what differs
@@ -97,6 +102,8 @@ pub(crate) fn command<'a>(alloc: Global) -> Result<Command<'a>, AllocError> {
 pub(crate) enum Contents {
     /// By their fields.
     Fields,
+    /// By their fields, and AML by its operations.
+    Code,
     /// By their bytes.
     Bytes,
     /// By their bytes, in the text of acpidump.
@@ -111,28 +118,41 @@ pub(crate) struct Choice {
     pub(crate) contents: Contents,
 }
 
+/// What the words of options may be, a line for each option: its name, and what comes after it.
+const USAGES: &str = "as image | memory | text | table
+at ADDRESS, which is 0x and one to sixteen hexadecimal digits
+start rsdt:REVISION:ADDRESS | rsdp:ADDRESS | bios
+table SIG, four letters of either case, or all
+hex SIG, four letters of either case, or all
+get SIG.FIELD | SIG.ENTRY.FIELD | SIG:OBJECT, as FACP.SCI_INT
+extract DIR, the name of a folder
+html FILE, the name of a file
+check error | warning | note
+baseline FILE --check[=SEVERITY]
+ignore-rules FILE --check[=SEVERITY]
+format sarif | junit, with --check
+sort table | rule | severity, with --check
+code --table SIG, without --text and --extract
+force with --extract DIR | --html FILE
+ignore FIELD --compare A B
+fleet INPUT.. [--base INPUT] [--alike] [--ignore FIELD].. [--json]
+base --fleet INPUT..
+alike --fleet INPUT..
+exit-code --compare A B
+compare A B
+json [--table SIG].. [--hex SIG].. | --get VALUE.. | --summary | --find | --compare | --check | --rules
+max-bytes NUMBER, in decimal digits
+color auto | always | never";
+
 /// What the word of an option may be.
 fn usage_of(option: &str) -> &'static str {
-    match option {
-        "as" => "image | memory | text | table",
-        "at" => "ADDRESS, which is 0x and one to sixteen hexadecimal digits",
-        "start" => "rsdt:REVISION:ADDRESS | rsdp:ADDRESS | bios",
-        "table" | "hex" => "SIG, four letters of either case, or all",
-        "extract" => "DIR, the name of a folder",
-        "html" => "FILE, the name of a file",
-        "check" => "error | warning | note",
-        "baseline" | "ignore-rules" => "FILE --check[=SEVERITY]",
-        "format" => "sarif | junit, with --check",
-        "sort" => "table | rule | severity, with --check",
-        "force" => "with --extract DIR | --html FILE",
-        "ignore" => "FIELD --compare A B",
-        "exit-code" => "--compare A B",
-        "compare" => "A B",
-        "json" => "[--table SIG].. [--hex SIG].. | --summary | --find | --compare | --check | --rules",
-        "max-bytes" => "NUMBER, in decimal digits",
-        "color" => "auto | always | never",
-        _ => "",
+    for line in USAGES.pieces('\n') {
+        let (name, usage) = next_word(line);
+        if name == option {
+            return usage;
+        }
     }
+    ""
 }
 
 /// Prints that the word of an option is wrong, and what would be right.

@@ -1,6 +1,7 @@
 // Made by scripts/erase of crates/acpi_dump_lib/src/run.rt, where it is proved.
 //! The program over any files, any storage and any writers.
 
+use crate::cli::storage::Storage;
 use crate::dump::accepted::Accepted;
 use crate::dump::arguments::{Request, View, request_of};
 use crate::dump::options::refuse_option;
@@ -11,7 +12,6 @@ use crate::dump::views::{Output, has_no_start, print_compared, print_input, prin
 use crate::input::errors::{Log, Stop, tell};
 use crate::input::gather::gather;
 use crate::input::sources::{Sources, reason_of};
-use crate::pack::storage::Storage;
 use crate::rattle::alloc::{AllocError, Global};
 use crate::rattle::format;
 use crate::rattle::io;

@@ -35,6 +35,14 @@ pub(crate) enum Order {
     Severities,
 }
 
+/// The letters that an RSDP's signature, of eight bytes, begins with.
+const RSDP: &[u8; 4] = b"RSD ";
+
+/// Whether a signature is that of an RSDP.
+pub(crate) fn is_rsdp(signature: Signature) -> bool {
+    signature.to_bytes() == *RSDP
+}
+
 /// A signature in either case: four bytes, in upper case if no table has lower-case letters.
 pub(crate) fn parse_signature(word: &str) -> Option<Option<Signature>> {
     if word.eq_ignore_ascii_case("all") {
@@ -45,6 +53,9 @@ pub(crate) fn parse_signature(word: &str) -> Option<Option<Signature>> {
     }
     if word.eq_ignore_ascii_case("fadt") {
         return Some(Some(Signature::FADT));
+    }
+    if word.eq_ignore_ascii_case("rsdp") {
+        return Some(Some(Signature::from_bytes(*RSDP)));
     }
     match word.as_bytes() {
         [a, b, c, d] => Some(Some(Signature::from_bytes([*a, *b, *c, *d]))),

@@ -9,9 +9,13 @@ mod machine;
 mod page;
 mod read;
 mod sarif;
+mod single;
 
+use crate::cli::storage::Storage;
+use crate::code::{Known, paths_of};
 use crate::dump::accepted::Accepted;
 use crate::dump::arguments::{Request, View};
+use crate::dump::code::code_of;
 use crate::dump::contents::{chosen_of, print_tables, tell_missing};
 use crate::dump::document::{Document, add_all, add_chosen};
 use crate::dump::listing::print_lines;
@@ -21,7 +25,6 @@ use crate::input::errors::{Log, Stop, tell};
 use crate::input::extract::{Saving, save_tables};
 use crate::input::gather::Input;
 use crate::input::sources::Sources;
-use crate::pack::storage::Storage;
 use crate::rattle::alloc::Global;
 use crate::walk::out::Out;
 pub(crate) use compared::print_compared;
@@ -31,6 +34,7 @@ pub(crate) use judged::print_rules;
 use machine::print_summary;
 pub(crate) use page::save_page;
 use read::tables_in;
+use single::print_values;
 
 /// How a view is printed.
 #[derive(Clone, Copy)]
@@ -77,7 +81,13 @@ pub(crate) fn print_input(output: Output<'_>, input: &Input, out: &mut Out, log:
         View::Candidates => print_found(output, input, out, log),
         View::Summary => print_summary(output, input, out, log),
         View::Findings => print_judged(output, input, out, log),
-        _ => print_entries(output, &tables_in(output, input, log)?.entries, out, log),
+        view => {
+            let entries = &tables_in(output, input, log)?.with_pointer(output.request)?;
+            match view {
+                View::Values => print_values(output, entries, out, log),
+                _ => print_entries(output, entries, out, log),
+            }
+        }
     }
 }
 
@@ -115,10 +125,13 @@ pub(crate) fn save_input<S: Sources, T: Storage>(
 fn print_entries(output: Output<'_>, entries: &[Entry<'_>], out: &mut Out, log: &mut Log) -> Result<u8, Stop> {
     let choices = output.request.choices.as_slice();
     let is_chosen = matches!(output.request.view, View::Tables);
+    let code = &code_of(output.alloc, entries, choices)?;
+    let paths = &paths_of(output.alloc, code)?;
+    let known = &Known::new(output.alloc, paths)?;
     if output.request.is_json {
         let mut document = output.document("tables");
         let view = if is_chosen {
-            add_chosen(&mut document, entries, choices);
+            add_chosen(&mut document, entries, choices, known);
             "contents"
         } else {
             add_all(&mut document, entries);
@@ -126,7 +139,7 @@ fn print_entries(output: Output<'_>, entries: &[Entry<'_>], out: &mut Out, log: 
         };
         document.print(view, out)?;
     } else if is_chosen {
-        print_tables(entries, choices, output.paint, out);
+        print_tables(entries, choices, known, output.paint, out);
     } else {
         print_lines(entries, output.paint, out);
     }

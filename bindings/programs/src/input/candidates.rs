@@ -4,6 +4,7 @@
 use crate::image_reader::MemoryImage;
 use crate::rattle::Vec;
 use crate::rattle::alloc::{AllocError, Global};
+use crate::walk::language::number_at;
 use zacpi::base::bytes::field;
 use zacpi::rsdp::Rsdp;
 use zacpi::{AcpiError, AcpiResult, AddressRange, PhysicalRecord};
@@ -38,6 +39,12 @@ fn candidate_of(address: u64, lent: &[u8]) -> Candidate {
         fields = Some(Pointers { revision: rsdp.revision(), rsdt: rsdp.rsdt_address(), xsdt: rsdp.xsdt_address() });
     }
     Candidate { address, refusal, fields }
+}
+
+/// The bytes of the RSDP that bytes begin with, as far as they are there: 20, or from revision 1 on 36.
+pub(crate) fn rsdp_in(lent: &[u8]) -> &[u8] {
+    let length = if number_at(lent, 15, 1) == 0 { 20 } else { 36 };
+    lent.get(..length).unwrap_or(lent)
 }
 
 /// The refusal of an RSDP in a file of its own, which for revision 0 has 20 bytes.

@@ -2,7 +2,7 @@
 //! The tables that an input has, with what their checks say.
 
 use crate::image_reader::MemoryImage;
-use crate::input::candidates::check_file;
+use crate::input::candidates::{check_file, rsdp_in};
 use crate::input::flaws::is_malformed;
 use crate::input::status::Status;
 use crate::input::tables::TableFile;
@@ -199,6 +199,20 @@ fn looked_over(alloc: Global, status: Status, bytes: &[u8]) -> Status {
     }
 }
 
+/// What the checks of section 5.2.5.3 say of an RSDP.
+fn check_rsdp(bytes: &[u8]) -> Status {
+    match check_file(bytes) {
+        Ok(()) => Status::Valid,
+        Err(refusal) => Status::Refused(refusal),
+    }
+}
+
+/// The RSDP at an address of a memory, in the way of a table.
+pub fn rsdp_at<'i>(image: &MemoryImage<'i>, address: u64) -> Entry<'i> {
+    let bytes = rsdp_in(bytes_from(image, address));
+    Entry { place: Place::Address(address), sought: None, bytes, status: check_rsdp(bytes) }
+}
+
 /// The table in a file.
 fn entry_of_file(alloc: Global, file: &TableFile) -> Entry<'_> {
     let lent = file.bytes.as_slice();
@@ -208,10 +222,7 @@ fn entry_of_file(alloc: Global, file: &TableFile) -> Entry<'_> {
     };
     let signature = own_signature(lent);
     let status = if lent.starts_with(b"RSD PTR ") {
-        match check_file(lent) {
-            Ok(()) => Status::Valid,
-            Err(refusal) => Status::Refused(refusal),
-        }
+        check_rsdp(lent)
     } else {
         check(lent, signature, AcpiError::SdtInvalidLength(signature))
     };

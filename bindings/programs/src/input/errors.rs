@@ -1,8 +1,8 @@
 // Made by scripts/erase of crates/acpi_dump_input/src/errors.rt, where it is proved.
 //! What is said on standard error: the program, the file or the word, and why.
 
+use crate::cli::save::SaveError;
 use crate::image::ImageError;
-use crate::pack::save::SaveError;
 use crate::rattle::alloc::{AllocError, Global};
 use crate::walk::out::Out;
 use core::fmt;

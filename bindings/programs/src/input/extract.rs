@@ -1,11 +1,11 @@
 // Made by scripts/erase of crates/acpi_dump_input/src/extract.rt, where it is proved.
 //! Files that are saved: tables in one folder, and a page.
 
+use crate::cli::storage::Storage;
 use crate::input::dumped::print_letters;
 use crate::input::entries::Entry;
 use crate::input::errors::{Log, Stop, fail, fail_with};
 use crate::input::sources::{Kind, Sources, reason_of};
-use crate::pack::storage::Storage;
 use crate::rattle::alloc::{AllocError, Global};
 use crate::rattle::io::ErrorKind;
 use crate::rattle::{String, Vec, format};

@@ -7,9 +7,12 @@ use crate::input::kind::Kind;
 use crate::input::order::in_order;
 use crate::input::read::{Reader, Reading};
 use crate::input::sources;
-use crate::input::sources::Sources;
+use crate::input::sources::{Listing, Sources};
 use crate::rattle::alloc::{AllocError, Global};
-use crate::rattle::{String, format};
+use crate::rattle::{String, Vec, format};
+
+/// The folders beside Linux's tables: of those that were loaded later, and of what tables point to, which may be none.
+const INNER: [&str; 2] = ["data", "dynamic"];
 
 /// The name of a folder less a slash at its end.
 fn without_slash(folder: &str) -> &str {
@@ -69,18 +72,34 @@ impl<S: Sources> Reader<'_, S> {
         Err(fail(self.log, folder, &"no table in it"))
     }
 
-    /// Adds the tables of a folder.
+    /// Adds to the names of what is in a folder those of the files in its folders of tables, after the folder's name.
+    fn push_inner(&mut self, folder: &str, names: &mut Vec<String>) -> Result<(), Stop> {
+        for inner in &INNER {
+            let path = path_in(self.alloc, without_slash(folder), *inner)?;
+            if !matches!(self.sources.kind_of(path.as_str()), Ok(sources::Kind::Folder)) {
+                continue;
+            }
+            let listing = self.sources.names_in(self.alloc, path.as_str());
+            for name in &self.told(path.as_str(), listing)?.names {
+                let within = path_in(self.alloc, *inner, name.as_str())?;
+                names.push(within).map_err(AllocError::from)?;
+            }
+        }
+        Ok(())
+    }
+
+    /// Adds the tables of a folder, and of the folders in it in which Linux has more of them.
     ///
     /// Fails, after printing why, if there are none.
     pub(crate) fn add_folder(&mut self, folder: &str) -> Result<(), Stop> {
         let listing = self.sources.names_in(self.alloc, folder);
-        let listing = self.told(folder, listing)?;
-        let unnamed = listing.unnamed;
+        let Listing { mut names, unnamed } = self.told(folder, listing)?;
+        self.push_inner(folder, &mut names)?;
         if unnamed > 0 {
             let what = format_args!("names that are not UTF-8, not shown: {unnamed}");
             fail(self.log, folder, &what);
         }
-        let names = borrowed(self.alloc, &listing.names)?;
+        let names = borrowed(self.alloc, &names)?;
         self.add_names(folder, &names)
     }
 }

@@ -10,6 +10,7 @@
 
 pub mod arguments;
 mod error;
+pub mod files;
 mod help;
 pub mod listing;
 mod pack;
@@ -18,9 +19,7 @@ mod plain;
 pub mod program;
 mod reading;
 pub mod run;
-pub mod save;
 mod sources;
-pub mod storage;
 mod sums;
 
 pub use error::{FileError, Refusal};

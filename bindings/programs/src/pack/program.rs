@@ -1,16 +1,16 @@
 // Made by scripts/erase of crates/acpi_pack_lib/src/program.rt, where it is proved.
 //! The program over any files, any storage and any writers.
 
-use crate::cli::files::{Files, count};
+use crate::cli::storage::Storage;
 use crate::pack::arguments::{Command, Options, parse_command};
 use crate::pack::error::Refusal;
+use crate::pack::files::{Files, count};
 use crate::pack::help::told;
 use crate::pack::listing::record_lines;
 use crate::pack::plain::plain_of;
 use crate::pack::reading::{contents_from, read_all};
 use crate::pack::run::{Outcome, run};
 use crate::pack::sources::FileBytes;
-use crate::pack::storage::Storage;
 use crate::pack::sums::{all_summed, lent};
 use crate::rattle::Vec;
 use crate::rattle::alloc::{AllocError, Global};

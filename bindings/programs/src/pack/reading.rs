@@ -1,7 +1,7 @@
 // Made by scripts/erase of crates/acpi_pack_lib/src/reading.rt, where it is proved.
 //! The files that a command names, as they are read.
 
-use crate::cli::files::{Files, Reading};
+use crate::pack::files::{Files, Reading};
 use crate::rattle::Vec;
 use crate::rattle::alloc::{AllocError, Global};
 

@@ -1,8 +1,9 @@
 // Made by scripts/erase of crates/acpi_dump_walk/src/aml.rt, where it is proved.
 //! The named objects of AML, in the order of the bytes (ACPI 6.4, section 20.2.5). AML is not run.
 
+pub mod parts;
 pub mod resources;
-mod units;
+pub mod units;
 pub mod value;
 
 use crate::rattle::Vec;
@@ -171,20 +172,25 @@ fn found_at(aml: &[u8], at: usize) -> Result<Found<'_>, AmlError> {
         _ => name_in(aml, opcode.end)?,
     };
     found.name = Some((start, name));
-    found.value = Value::after_name(opcode.code, aml.get(name.end..end).unwrap_or(&[]));
+    let mut beside = (name.end, end);
     match rest {
         Rest::Method => found.own.0 = name.end.saturating_add(1),
         Rest::Units(before) => {
             found.units = parts_end(before, aml, name.end).ok();
-            found.own = (name.end, found.units.unwrap_or(end).min(end));
+            beside.1 = found.units.unwrap_or(end).min(end);
+            found.own = beside;
         }
         Rest::Entered(before) => {
             let inner = name.end.saturating_add(before);
             found.inner = Some(inner);
-            found.own = (name.end, inner.min(end));
+            beside.1 = inner.min(end);
+            found.own = beside;
         }
+        Rest::Parts(before) if before > 0 => beside = (opcode.end, start),
         _ => {}
     }
+    let bytes = aml.get(beside.0..beside.1).unwrap_or(&[]);
+    found.value = Value::beside_name(opcode.code, bytes);
     Ok(found)
 }
 

@@ -62,7 +62,7 @@ pub fn print_path(segments: &[u8], out: &mut Out) {
 }
 
 /// Prints segments of four letters each.
-pub(crate) fn print_segments(segments: &[u8], out: &mut Out) {
+pub fn print_segments(segments: &[u8], out: &mut Out) {
     for (index, segment) in segments.chunks(4).enumerate() {
         if index > 0 {
             out.text(".");
@@ -154,7 +154,7 @@ fn print_name(name: &str, out: &mut Out) {
 }
 
 /// The bits of a number from one on up to another.
-fn bits_of(number: u64, first: u64, last: u64) -> u64 {
+pub(crate) fn bits_of(number: u64, first: u64, last: u64) -> u64 {
     if first > 63 || last < first {
         return 0;
     }
@@ -265,7 +265,7 @@ fn print_guid(value: &[u8], names: &'static str, out: &mut Out) {
 }
 
 /// Prints the 16 bytes of a GUID.
-pub(crate) fn print_guid_digits(value: &[u8], out: &mut Out) {
+pub fn print_guid_digits(value: &[u8], out: &mut Out) {
     if value.len() != 16 {
         return;
     }

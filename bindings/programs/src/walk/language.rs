@@ -31,7 +31,7 @@
 //! numbers in hexadecimal digits. `dec` and `guid` may have codes too. `| @BLOCK` takes them from a block.
 //!
 //! A word that isn't understood, and the name of a block that isn't there, is the fault `Unread`.
-//! `scripts/check_layouts` reads every layout, and so finds it before a table does.
+//! `scripts/check/layouts` reads every layout, and so finds it before a table does.
 
 use crate::rattle::Pieces;
 use crate::walk::fault::Fault;
@@ -158,7 +158,7 @@ pub(crate) fn places_end(word: &str) -> usize {
 }
 
 /// The first and the last number of a range, or the number of a word twice.
-fn range_of(word: &str) -> Option<(u64, u64)> {
+pub(crate) fn range_of(word: &str) -> Option<(u64, u64)> {
     let (first, last) = word.two_pieces('-').unwrap_or((word, word));
     Some((number_of(first)?, number_of(last)?))
 }

@@ -11,7 +11,9 @@ mod localities;
 mod management;
 mod memory;
 mod processors;
+mod remapping;
 mod roots;
+mod sharing;
 mod trust;
 
 use crate::walk::language::{Block, Blocks};
@@ -19,7 +21,7 @@ pub(crate) use roots::HEADER;
 use zacpi::sdt::Signature;
 
 /// The texts of layouts. A function returns them, so that a proof that goes over them doesn't go over their letters.
-fn texts() -> [&'static str; 17] {
+fn texts() -> [&'static str; 21] {
     [
         roots::ROOTS,
         interrupts::MADT,
@@ -38,15 +40,18 @@ fn texts() -> [&'static str; 17] {
         processors::PROCESSORS,
         processors::MACHINES,
         management::MANAGEMENT,
+        remapping::REMAPPING,
+        remapping::NETWORK,
+        sharing::SHARING,
+        sharing::VENDORS,
     ]
 }
 
 /// What tables without a layout are called.
-const TITLES: [(&str, &str); 4] = [
+const TITLES: [(&str, &str); 3] = [
     ("DSDT", "Differentiated System Description Table"),
     ("SSDT", "Secondary System Description Table"),
     ("PSDT", "Persistent System Description Table"),
-    ("RSD ", "Root System Description Pointer"),
 ];
 
 /// What a table with this signature is called, or no letters if that isn't known.
@@ -58,9 +63,9 @@ pub fn title_of(signature: Signature) -> &'static str {
 }
 
 /// The blocks among which the layout of a table with this signature is, and the one that it is, with its lines after
-/// the header: none if no text has it. A FACS has no header: these are then all of its lines.
+/// the header: none if no text has it. A FACS and an RSDP have no header: these are then all of its lines.
 pub(crate) fn layout_of(signature: Signature) -> (Blocks, Block) {
-    let name = signature.as_str().unwrap_or("");
+    let name = signature.as_str().unwrap_or("").trim_ascii_end();
     for text in &texts() {
         let blocks = Blocks::read(*text);
         if let Some(block) = blocks.find(name, None) {

@@ -90,12 +90,19 @@ pub fn walk_with_objects<S: ShowObjects>(alloc: Global, signature: Signature, ta
     walk_table(signature, table, show)
 }
 
+/// The lines of what a table with this signature begins with: a FACS and an RSDP have no header.
+fn head_of(signature: Signature) -> &'static str {
+    match signature.as_str() {
+        Some("FACS" | "RSD ") => "",
+        _ => HEADER,
+    }
+}
+
 /// Shows a table by its layout.
 pub fn walk_table<S: Show>(signature: Signature, table: &[u8], show: &mut S) {
     let (blocks, block) = &layout_of(signature);
     let piece = Piece { base: 0, bytes: table, blocks };
-    let head = if signature == Signature::FACS { "" } else { HEADER };
-    walk_structure(piece, head, block.lines, DEEPEST, show)
+    walk_structure(piece, head_of(signature), block.lines, DEEPEST, show)
 }
 
 /// Shows the parts of a structure, and all other bytes of it as they are.

@@ -86,31 +86,36 @@ pub(super) fn check_regions(machine: &Machine<'_>, names: &Names<'_>, findings: 
         }
     }
     findings.need(spans.sort_by_key(|it| (it.first, it.offset)).is_ok());
+    let wholes = wholes_of(&spans, findings);
     let mut offset = 44usize;
     findings.table = index;
     for region in McfgEntryIter::over(mcfg) {
         let (first, last) = (region.bus_number_start as u64, region.bus_number_end as u64);
         let start = region.base_address.saturating_add(first << 20);
         let end = region.base_address.saturating_add(last << 20 | 0xfffff);
-        if start <= end && !is_within(&spans, start, end) {
+        if start <= end && !is_within(&wholes, start, end) {
             findings.add("aml-mcfg-reserved", offset, &[start, end]);
         }
         offset = offset.saturating_add(16);
     }
 }
 
-/// Whether spans, the lowest first, have all numbers from one to another.
-fn is_within(spans: &[Span], first: u64, last: u64) -> bool {
-    let mut next = first;
+/// What spans, the lowest first, are together: the first number and the last of each row of numbers without a gap.
+fn wholes_of(spans: &[Span], findings: &mut Findings) -> Vec<(u64, u64)> {
+    let mut wholes: Vec<(u64, u64)> = Vec::new(findings.alloc);
     for span in spans {
-        if span.first <= next && next <= span.last {
-            if last <= span.last {
-                return true;
-            }
-            next = span.last.saturating_add(1);
+        match wholes.last_mut() {
+            Some((_, last)) if span.first <= last.saturating_add(1) => *last = span.last.max(*last),
+            _ => findings.need(wholes.push((span.first, span.last)).is_ok()),
         }
     }
-    false
+    wholes
+}
+
+/// Whether one of such rows has all numbers from one to another.
+fn is_within(wholes: &[(u64, u64)], first: u64, last: u64) -> bool {
+    let count = wholes.partition_point(|it| it.0 <= first);
+    matches!(wholes.get(..count), Some([.., (_, end)]) if last <= *end)
 }
 
 /// Finds addresses and buses that two host bridges have.

@@ -1,12 +1,13 @@
 // Made by scripts/erase of crates/acpi_dump_check/src/aml/devices.rt, where it is proved.
 //! Devices, processors and events (ACPI 6.5, sections 5.2.12, 5.6.4.1 and 6.1.12).
 
-use super::names::{Named, Names, ROOT, key_of};
+use super::names::{Named, Names, ROOT};
 use super::values::text_in;
 use crate::check::findings::Findings;
 use crate::check::machine::Machine;
 use crate::check::numbers::{Kept, Numbers};
 use crate::check::pieces::Pieces;
+use crate::rattle::Vec;
 use crate::walk::aml::value::{elements_of, integer_in, next_element};
 use crate::walk::fields::print_path;
 use zacpi::sdt::{Signature, field};
@@ -20,7 +21,7 @@ fn is_one(data: &[u8], ids: &[Id]) -> bool {
     ids.iter().any(|id| number == Some(id.0) || text == id.1)
 }
 
-/// Whether the device whose path has a key has one of ids.
+/// Whether the device whose path has a number has one of ids.
 pub(super) fn has_id(names: &Names<'_>, device: u64, ids: &[Id]) -> bool {
     if let Some(id) = names.find_in(device, b"_HID")
         && is_one(id.data, ids)
@@ -46,26 +47,22 @@ pub(super) fn has_id(names: &Names<'_>, device: u64, ids: &[Id]) -> bool {
     false
 }
 
-/// The integer that a name in the object whose path has a key is set to.
+/// The integer that a name in the object whose path has a number is set to.
 pub(super) fn integer_of(names: &Names<'_>, scope: u64, name: &[u8]) -> Option<u64> {
     integer_in(names.find_in(scope, name)?.data)
 }
 
-/// The key of an id and a _UID: of an integer by its value, and else by its bytes.
-fn identity_of(id: &[u8], unique: &[u8]) -> u64 {
-    let mut key = ROOT;
-    for data in [id, unique] {
-        match integer_in(data) {
-            Some(number) => key = key_of(key_of(key, &[0]), &number.to_le_bytes()),
-            None => key = key_of(key_of(key, &[1]), data),
-        }
+/// What an id or a _UID is: an integer by its value, and else its bytes.
+fn value_of(data: &[u8]) -> (Option<u64>, &[u8]) {
+    match integer_in(data) {
+        Some(number) => (Some(number), &[]),
+        None => (None, data),
     }
-    key
 }
 
 /// Finds devices that have the _HID and the _UID of another one before them. One that is never there doesn't count.
 pub(super) fn check_ids(names: &Names<'_>, findings: &mut Findings) {
-    let mut found = Numbers::new(findings.alloc);
+    let mut found = Vec::new(findings.alloc);
     for (number, it) in names.all.iter().enumerate() {
         if it.kind == "Name"
             && matches!(names.name(it), b"_UID")
@@ -73,26 +70,26 @@ pub(super) fn check_ids(names: &Names<'_>, findings: &mut Findings) {
             && id.kind == "Name"
             && !matches!(integer_of(names, it.scope, b"_STA"), Some(status) if status & 1 == 0)
         {
-            found.push(0, identity_of(id.data, it.data), number);
+            let device = (value_of(id.data), value_of(it.data), number);
+            findings.need(found.push(device).is_ok());
         }
     }
-    findings.need(found.sort());
-    let mut before = None;
-    for (_, identity, number) in found.all.iter() {
-        let Some(it) = names.all.get(*number) else {
-            continue;
-        };
-        if let Some((same, other)) = before
-            && same == *identity
+    findings.need(found.sort_by_key(|it| *it).is_ok());
+    for pair in found.windows(2) {
+        if let [one, next] = pair
+            && one.0 == next.0
+            && one.1 == next.1
         {
-            tell_unique(names, it, &other, findings);
+            tell_unique(names, next.2, one.2, findings);
         }
-        before = Some((*identity, *it));
     }
 }
 
-/// Finds a _UID that another device with the same _HID has.
-fn tell_unique(names: &Names<'_>, it: &Named<'_>, other: &Named<'_>, findings: &mut Findings) {
+/// Finds that the _UID with a number among the objects is another one's, of a device with the same _HID.
+fn tell_unique(names: &Names<'_>, number: usize, other: usize, findings: &mut Findings) {
+    let (Some(it), Some(other)) = (names.all.get(number), names.all.get(other)) else {
+        return;
+    };
     if it.key == other.key {
         return;
     }
@@ -103,7 +100,7 @@ fn tell_unique(names: &Names<'_>, it: &Named<'_>, other: &Named<'_>, findings: &
     findings.end("aml-uid-twice", it.offset, start);
 }
 
-/// Whether the device whose path has a key is a processor (section 5.6.7).
+/// Whether the device whose path has a number is a processor (section 5.6.7).
 fn is_processor(names: &Names<'_>, device: u64) -> bool {
     match names.find_in(device, b"_HID") {
         Some(id) => matches!(text_in(id.data), Some(b"ACPI0007")),
@@ -187,7 +184,9 @@ fn has_event(fadt: &[u8], event: u64) -> bool {
 
 /// Judges the methods of general purpose events.
 pub(super) fn check_events(machine: &Machine<'_>, names: &Names<'_>, findings: &mut Findings) {
-    let scope = key_of(ROOT, b"_GPE");
+    let Some(scope) = names.number_of(ROOT, b"_GPE") else {
+        return;
+    };
     let fadt = machine.first(Signature::FADT).map(|(_, fadt)| fadt);
     for it in names.all.iter() {
         let name = names.name(it);

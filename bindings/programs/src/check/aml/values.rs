@@ -1,7 +1,7 @@
 // Made by scripts/erase of crates/acpi_dump_check/src/aml/values.rt, where it is proved.
 //! What names of a meaning are set to: ids, states and references (ACPI 6.5, sections 6.1, 6.2.13, 6.3.7 and 7.4.2).
 
-use super::names::{Named, Names, ROOT, key_of};
+use super::names::{Named, Names, ROOT};
 use crate::check::findings::Findings;
 use crate::check::machine::Machine;
 use crate::walk::aml::value::{elements_of, integer_in, is_eisa_id, name_in, next_element};
@@ -177,7 +177,9 @@ fn is_there(names: &Names<'_>, it: &Named<'_>, name: (bool, usize, &[u8])) -> bo
     let is_sought = ups == 0 && segments.len() == 4;
     for up in 0..=depth {
         let outer = scope.get(..depth.saturating_sub(up).saturating_mul(4)).unwrap_or(&[]);
-        if names.find_in(key_of(ROOT, outer), segments).is_some() {
+        if let Some(scope) = names.number_of(ROOT, outer)
+            && names.find_in(scope, segments).is_some()
+        {
             return true;
         }
         if !is_sought {

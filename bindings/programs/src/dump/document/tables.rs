@@ -2,7 +2,10 @@
 //! The tables in a document.
 
 use super::Document;
+use crate::code::{Known, ShowCode};
+use crate::compare::compare::code::Code;
 use crate::compare::compare::{Difference, ShowDifferences};
+use crate::dump::code::{is_code, show_code};
 use crate::dump::contents::shows;
 use crate::dump::options::{Choice, Contents};
 use crate::input::entries::{Entry, Place, header_of};
@@ -18,6 +21,8 @@ enum Part<'p> {
     Nothing,
     /// All fields, or all bytes.
     Whole(Contents),
+    /// All operations.
+    Code(&'p Known<'p>),
     /// The fields in which it differs from another table.
     Changed(&'p [Difference<'p>]),
     /// Which of two inputs alone has it.
@@ -70,6 +75,9 @@ fn add_table(document: &mut Document<'_>, entry: &Entry<'_>, part: Part<'_>) {
     if let Part::Whole(Contents::Bytes) = part {
         document.hex("bytes", entry.bytes);
     }
+    if let Part::Code(known) = part {
+        add_code(document, known, entry);
+    }
     add_header(document, header, &HEADER[..2]);
     add_fields(document, entry, part);
     if let Place::File(name) = entry.place {
@@ -116,11 +124,31 @@ fn add_side(document: &mut Document<'_>, name: &str, name_of_meaning: &str, valu
     }
 }
 
+/// Adds the lines of a method that differ, if there are some.
+fn add_lines(document: &mut Document<'_>, code: Code<'_>) {
+    if code.is_empty() {
+        return;
+    }
+    document.begin_list("code");
+    for number in 0..code.count() {
+        if let Some(line) = code.line(number) {
+            document.token(Token::BeginObject);
+            document.number("depth", line.depth as u64);
+            document.number("offset", line.offset);
+            document.text("only", if line.is_first { "first" } else { "second" });
+            document.text("text", line.text);
+            document.token(Token::EndObject);
+        }
+    }
+    document.token(Token::EndArray);
+}
+
 /// Adds a field that differs between two tables, or a structure that one alone has, with what the structure is called,
 /// unless that is all of the table.
 fn add_difference(document: &mut Document<'_>, difference: Difference<'_>) {
     let is_field = !difference.name.is_empty();
     document.token(Token::BeginObject);
+    add_lines(document, difference.code);
     if is_field {
         document.text("name", difference.name);
         add_side(document, "new", "new_meaning", difference.new);
@@ -139,6 +167,32 @@ fn add_difference(document: &mut Document<'_>, difference: Difference<'_>) {
     document.token(Token::EndObject);
 }
 
+impl ShowCode for Document<'_> {
+    fn line(&mut self, offset: u64, depth: usize, text: &str) {
+        self.token(Token::BeginObject);
+        self.numbers("depth offset", &[depth as u64, offset]);
+        self.text("text", text);
+        self.token(Token::EndObject);
+    }
+
+    fn ends(&mut self, offset: u64, end: u64, depth: usize, why: &str) {
+        self.token(Token::BeginObject);
+        self.numbers("depth end", &[depth as u64, end]);
+        self.text("ends", why);
+        self.number("offset", offset);
+        self.token(Token::EndObject);
+    }
+}
+
+/// Adds the operations of a table.
+fn add_code(document: &mut Document<'_>, known: &Known<'_>, entry: &Entry<'_>) {
+    document.begin_list("code");
+    let alloc = document.draft.allocator();
+    let listed = show_code(alloc, known, entry, document);
+    document.is_refused |= listed.is_err();
+    document.token(Token::EndArray);
+}
+
 /// Adds tables, without their contents.
 pub(crate) fn add_all(document: &mut Document<'_>, entries: &[Entry<'_>]) {
     for entry in entries {
@@ -147,11 +201,16 @@ pub(crate) fn add_all(document: &mut Document<'_>, entries: &[Entry<'_>]) {
 }
 
 /// Adds the tables that are chosen, with their contents, choice by choice.
-pub(crate) fn add_chosen(document: &mut Document<'_>, entries: &[Entry<'_>], choices: &[Choice]) {
+pub(crate) fn add_chosen(document: &mut Document<'_>, entries: &[Entry<'_>], choices: &[Choice], known: &Known<'_>) {
     for (number, choice) in choices.iter().enumerate() {
         for entry in entries {
             if shows(choices, number, entry) {
-                add_table(document, entry, Part::Whole(choice.contents));
+                let part = match choice.contents {
+                    Contents::Code if is_code(entry) => Part::Code(&*known),
+                    Contents::Code => Part::Whole(Contents::Fields),
+                    contents => Part::Whole(contents),
+                };
+                add_table(document, entry, part);
             }
         }
     }

@@ -34,10 +34,20 @@ NFIT 0 nvdimm_ranges[]|NVDIMM range |#range=SPA Range Structure Index|\t#kind=Ad
     | from #base=System Physical Address Range Base| on, %length=System Physical Address Range Length
 NFIT 1 nvdimms[]|NVDIMM |#handle=NFIT Device Handle|\trange #range=SPA Range Structure Index\
     |, %length=NVDIMM Region Size|, #flags=NVDIMM State Flags
+GTDT - arm_timers[]|Arm timer\tgeneric|, interrupts: secure EL1 #secure_el1=Secure EL1 Timer GSIV\
+    |, non-secure EL1 #non_secure_el1=Non-Secure EL1 Timer GSIV|, virtual EL1 #virtual_el1=Virtual EL1 Timer GSIV\
+    |, EL2 #el2=EL2 Timer GSIV|, virtual EL2 #virtual_el2=Virtual EL2 Timer GSIV
+GTDT 0 arm_timers[]|Arm timer\tblock|, registers at #registers=GT Block Physical address\
+    |, timers #timers=GT Block Timer Count
+GTDT 1 arm_timers[]|Arm timer\twatchdog|, refreshed at #refresh=RefreshFrame Physical Address\
+    |, registers at #registers=WatchdogControlFrame Physical Address|, interrupt #interrupt=Watchdog Timer GSIV
 CEDT 0 cxl_host_bridges[]|CXL host bridge |#uid=UID|\tregisters at #registers=Base|, %length=Length
 CEDT 1 cxl_windows[]|CXL window|\tfrom #base=Base HPA| on, %length=Window Size\
     |, #ways=Encoded Number of Interleave Ways (ENIW)|, #restrictions=Window Restrictions\
     |, host bridge #host_bridges[]=Interleave Target List";
+
+/// The member that is a number also where its field has eight bytes, as that of a server's TCPA has.
+const LOG_LENGTH: &str = "log_length";
 
 /// The subject and the line that a structure of this type has, or no letters if it has none.
 fn unit_of(table: &[u8], kind: Option<u64>) -> (&'static str, &'static str) {
@@ -103,7 +113,7 @@ impl Units<'_> {
         let value = match shown.label.meaning {
             Meaning::Codes | Meaning::Flags | Meaning::Function => Value::Code(number_of(shown.bytes), span),
             Meaning::Guid => Value::Text(span),
-            _ if shown.bytes.len() > 4 => Value::Wide(number_of(shown.bytes)),
+            _ if shown.bytes.len() > 4 && member != LOG_LENGTH => Value::Wide(number_of(shown.bytes)),
             _ => Value::Number(number_of(shown.bytes)),
         };
         self.facts.member(member, value)

@@ -29,8 +29,8 @@ pub(super) fn print_finding(findings: &Judgement, finding: &Finding, entry: &Ent
     out.text(findings.message(finding));
 }
 
-/// Prints a line for each finding of a severity or a higher one, and how many they are.
-fn print_findings(findings: &Judgement, entries: &[Entry<'_>], least: Severity, out: &mut Out) {
+/// Prints a line for each finding of a severity or a higher one, and how many they are and were left out.
+fn print_findings(findings: &Judgement, left_out: u64, entries: &[Entry<'_>], least: Severity, out: &mut Out) {
     for finding in findings.list() {
         let rule = finding.rule;
         if rule.severity.rank() >= least.rank()
@@ -43,47 +43,54 @@ fn print_findings(findings: &Judgement, entries: &[Entry<'_>], least: Severity, 
     }
     let [notes, warnings, errors] = counts_of(findings, least);
     let counts = [errors as u64, warnings as u64, notes as u64];
-    out.words("errors %, warnings %, notes %\n", &counts);
+    out.words("errors %, warnings %, notes %", &counts);
+    if left_out > 0 {
+        out.words(", left out %", &[left_out]);
+    }
+    out.text("\n");
+}
+
+/// Adds a finding.
+fn add_finding(findings: &Judgement, finding: &Finding, entry: &Entry<'_>, document: &mut Document<'_>) {
+    let rule = finding.rule;
+    document.token(Token::BeginObject);
+    if let Place::Address(address) = entry.place {
+        document.address("address", address);
+    }
+    if !finding.field.is_empty() {
+        document.text("field", finding.field);
+    }
+    if let Place::File(name) = entry.place {
+        document.text("file", name);
+    }
+    document.text("message", findings.message(finding));
+    document.number("offset", finding.offset as u64);
+    let texts = [rule.id, rule.section, rule.severity.word()];
+    document.texts("rule section severity", &texts);
+    document.letters("signature", &own_signature(entry.bytes).to_bytes());
+    document.token(Token::EndObject);
 }
 
 /// Adds the findings of a severity or a higher one.
 fn add_findings(findings: &Judgement, entries: &[Entry<'_>], least: Severity, document: &mut Document<'_>) {
     for finding in findings.list() {
-        let Some(entry) = entries.get(finding.table) else {
-            continue;
-        };
-        let rule = finding.rule;
-        if rule.severity.rank() < least.rank() {
-            continue;
+        if finding.rule.severity.rank() >= least.rank()
+            && let Some(entry) = entries.get(finding.table)
+        {
+            add_finding(findings, finding, entry, document);
         }
-        document.token(Token::BeginObject);
-        if let Place::Address(address) = entry.place {
-            document.address("address", address);
-        }
-        if !finding.field.is_empty() {
-            document.text("field", finding.field);
-        }
-        if let Place::File(name) = entry.place {
-            document.text("file", name);
-        }
-        document.text("message", findings.message(finding));
-        document.number("offset", finding.offset as u64);
-        document.text("rule", rule.id);
-        document.text("section", rule.section);
-        document.text("severity", rule.severity.word());
-        document.letters("signature", &own_signature(entry.bytes).to_bytes());
-        document.token(Token::EndObject);
     }
 }
 
-/// What rules find in tables, but for what is left out of it.
+/// What rules find in tables, but for what is left out of it, and how many findings are.
 ///
 /// Fails, after printing why, if what is to be left out can't be read, or if memory runs out.
-pub(super) fn findings_in(output: Output<'_>, tables: &Tables<'_>, log: &mut Log) -> Result<Judgement, Stop> {
+pub(super) fn findings_in(output: Output<'_>, tables: &Tables<'_>, log: &mut Log) -> Result<(Judgement, u64), Stop> {
     let mut findings = findings_of(&tables.machine(output.alloc))?;
-    let accepted = output.accepted;
+    let (accepted, all) = (output.accepted, findings.list.len());
     findings.list = accepted.rest_of(output.alloc, &findings, &tables.entries, log)?;
-    Ok(findings)
+    let left_out = all.saturating_sub(findings.list.len()) as u64;
+    Ok((findings, left_out))
 }
 
 /// Puts findings into the order in which they are printed.
@@ -105,7 +112,7 @@ fn put_in_order(findings: &mut Judgement, order: Order) -> Result<(), AllocError
 /// Fails, after printing why, if there are no tables, or if memory runs out.
 pub(super) fn print_judged(output: Output<'_>, input: &Input, out: &mut Out, log: &mut Log) -> Result<u8, Stop> {
     let tables = &tables_in(output, input, log)?;
-    let mut findings = findings_in(output, tables, log)?;
+    let (mut findings, left_out) = findings_in(output, tables, log)?;
     put_in_order(&mut findings, output.request.order)?;
     let (findings, entries) = (&findings, tables.entries.as_slice());
     let least = output.request.least.unwrap_or(Severity::Note);
@@ -115,9 +122,11 @@ pub(super) fn print_judged(output: Output<'_>, input: &Input, out: &mut Out, log
         Format::Lines if output.request.is_json => {
             let mut document = output.document("findings");
             add_findings(findings, entries, least, &mut document);
-            document.print("check", out)?;
+            document.end_list();
+            document.number("left_out", left_out);
+            document.end("check", out)?;
         }
-        Format::Lines => print_findings(findings, entries, least, out),
+        Format::Lines => print_findings(findings, left_out, entries, least, out),
     }
     Ok(status_of(output, entries, findings))
 }
@@ -135,10 +144,8 @@ pub(super) fn status_of(output: Output<'_>, entries: &[Entry<'_>], findings: &Ju
 fn add_rules(rules: &[Rule], document: &mut Document<'_>) {
     for rule in rules {
         document.token(Token::BeginObject);
-        document.text("rule", rule.id);
-        document.text("section", rule.section);
-        document.text("severity", rule.severity.word());
-        document.text("what", rule.what);
+        let texts = [rule.id, rule.section, rule.severity.word(), rule.what];
+        document.texts("rule section severity what", &texts);
         document.token(Token::EndObject);
     }
 }

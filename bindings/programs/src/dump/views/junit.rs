@@ -15,30 +15,30 @@ fn print_text(text: &str, out: &mut Out) {
     print_escaped(text.as_bytes(), out);
 }
 
-/// Prints the test that a rule is: one that fails if the rule finds something that is bad. What isn't bad is output of
-/// the test.
-fn print_test(
-    output: Output<'_>,
-    rule: &Rule,
-    is_bad: bool,
-    findings: &Judgement,
-    entries: &[Entry<'_>],
-    out: &mut Out,
-) {
-    let mut lines = Out::new(output.alloc);
-    let mut count = 0u64;
+/// Prints a line for each finding of a rule, as text between tags.
+fn print_lines(rule: &Rule, findings: &Judgement, entries: &[Entry<'_>], out: &mut Out) {
+    let mut line = Out::new(out.allocator());
     for finding in findings.list() {
         if finding.rule.id == rule.id
             && let Some(entry) = entries.get(finding.table)
         {
-            print_finding(findings, finding, entry, &mut lines);
-            lines.text("\n");
-            count = count.saturating_add(1);
+            line.clear();
+            print_finding(findings, finding, entry, &mut line);
+            match line.printed() {
+                Some(line) => print_text(line, out),
+                None => out.refuse(),
+            }
+            out.text("\n");
         }
     }
+}
+
+/// Prints the test that a rule is: one that fails if the rule finds something that is bad. What isn't bad is output of
+/// the test.
+fn print_test(rule: &Rule, is_bad: bool, lines: &Out, out: &mut Out) {
     out.text("    <testcase classname=\"acpi_dump\" name=\"");
     print_text(rule.id, out);
-    if count == 0 {
+    if lines.length() == 0 {
         return out.text("\"/>\n");
     }
     let (begin, end) = if is_bad { ("<failure", "</failure>") } else { ("<system-out", "</system-out>") };
@@ -51,13 +51,7 @@ fn print_test(
         out.text(")\"");
     }
     out.text(">");
-    for line in lines.printed().unwrap_or("").lines() {
-        print_text(line, out);
-        out.text("\n");
-    }
-    if lines.printed().is_none() {
-        out.refuse();
-    }
+    out.append(lines);
     out.fill("$\n    </testcase>\n", &[end]);
 }
 
@@ -74,16 +68,20 @@ pub(super) fn print_junit(
     let shown = output.request.least.unwrap_or(Severity::Note).rank();
     let bad = output.request.least.unwrap_or(Severity::Error).rank();
     let (mut tests, mut failures) = (0u64, 0u64);
-    let mut printed = Out::new(output.alloc);
+    let (mut printed, mut lines) = (Out::new(output.alloc), Out::new(output.alloc));
     for rule in rules {
         let rank = rule.severity.rank();
         if rank < shown {
             continue;
         }
-        let is_found = findings.list().iter().any(|it| it.rule.id == rule.id);
+        lines.clear();
+        print_lines(rule, findings, entries, &mut lines);
         tests = tests.saturating_add(1);
-        failures = failures.saturating_add((is_found && rank >= bad) as u64);
-        print_test(output, rule, rank >= bad, findings, entries, &mut printed);
+        failures = failures.saturating_add((lines.length() > 0 && rank >= bad) as u64);
+        print_test(rule, rank >= bad, &lines, &mut printed);
+    }
+    if lines.printed().is_none() {
+        out.refuse();
     }
     out.text("<?xml version=\"1.0\" encoding=\"UTF-8\"?>\n<testsuites>\n  <testsuite name=\"acpi_dump --check ");
     print_text(output.name(), out);

@@ -4,11 +4,11 @@
 use super::judged::{findings_in, status_of};
 use super::read::{Tables, tables_in};
 use super::{Output, strict_status};
+use crate::cli::storage::Storage;
 use crate::input::errors::{Log, Stop};
 use crate::input::extract::save_file;
 use crate::input::gather::Input;
 use crate::input::sources::Sources;
-use crate::pack::storage::Storage;
 use crate::page::html::{Given, Source, print_page};
 use crate::rattle::alloc::AllocError;
 use crate::walk::out::Out;
@@ -24,7 +24,7 @@ fn print_judged_page(
     page: &mut Out,
     log: &mut Log,
 ) -> Result<u8, Stop> {
-    let findings = &findings_in(output, tables, log)?;
+    let (findings, _) = &findings_in(output, tables, log)?;
     let source = Source {
         alloc: output.alloc,
         input: Given { names, entries: &tables.entries },

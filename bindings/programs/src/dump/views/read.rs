@@ -4,24 +4,38 @@
 use super::Output;
 use crate::check::Machine;
 use crate::cli::root::Root;
+use crate::dump::arguments::Request;
 use crate::image_reader::MemoryImage;
 use crate::input::candidates::{candidates, ebda_of, starts};
-use crate::input::entries::{Entry, bytes_from, entries_of, entries_of_files, entry_at};
+use crate::input::entries::{Entry, bytes_from, entries_of, entries_of_files, entry_at, rsdp_at};
 use crate::input::errors::{At, Log, Stop, begin, fail, fail_with};
 use crate::input::gather::Input;
 use crate::rattle::Vec;
-use crate::rattle::alloc::Global;
+use crate::rattle::alloc::{AllocError, Global};
 use zacpi::AcpiTables;
 use zacpi::sdt::{Signature, field};
 
 /// The tables of an input, and what leads to them.
 pub(super) struct Tables<'i> {
     pub(super) entries: Vec<Entry<'i>>,
+    /// The RSDP of a memory, which no table lists.
+    pointer: Option<Entry<'i>>,
     rsdp: &'i [u8],
     rsdt: &'i [u8],
 }
 
-impl Tables<'_> {
+impl<'i> Tables<'i> {
+    /// The tables, and after them the RSDP of a memory if it is requested.
+    pub(super) fn with_pointer(self, request: &Request<'_>) -> Result<Vec<Entry<'i>>, AllocError> {
+        let Tables { mut entries, pointer, .. } = self;
+        if let Some(pointer) = pointer
+            && request.names_rsdp()
+        {
+            entries.push(pointer)?;
+        }
+        Ok(entries)
+    }
+
     /// The machine whose tables they are.
     pub(super) fn machine(&self, alloc: Global) -> Machine<'_> {
         Machine { alloc, entries: &self.entries, rsdp: self.rsdp, rsdt: self.rsdt }
@@ -109,14 +123,15 @@ fn beginning_with<'i>(entries: &[Entry<'i>], letters: &[u8]) -> &'i [u8] {
 /// Tables that come as files: an RSDP and an RSDT beside an XSDT are among them.
 fn tables_of_files(entries: Vec<Entry<'_>>) -> Tables<'_> {
     let rsdt = if beginning_with(&entries, b"XSDT").is_empty() { &[] } else { beginning_with(&entries, b"RSDT") };
-    Tables { rsdp: beginning_with(&entries, b"RSD PTR "), rsdt, entries }
+    Tables { pointer: None, rsdp: beginning_with(&entries, b"RSD PTR "), rsdt, entries }
 }
 
 /// The tables of a memory, whose RSDP may give a valid RSDT beside an XSDT.
 fn tables_of_memory<'i>(output: Output<'_>, memory: &MemoryImage<'i>, log: &mut Log) -> Result<Tables<'i>, Stop> {
     let (root, tables) = &open(output, memory, log)?;
-    let mut tables = Tables { entries: entries_of(output.alloc, memory, tables)?, rsdp: &[], rsdt: &[] };
+    let mut tables = Tables { entries: entries_of(output.alloc, memory, tables)?, pointer: None, rsdp: &[], rsdt: &[] };
     if let Root::Rsdp { address } = root {
+        tables.pointer = Some(rsdp_at(memory, *address));
         let rsdp = bytes_from(memory, *address);
         tables.rsdp = rsdp.get(..36).unwrap_or(&[]);
         // Revision, RsdtAddress.

@@ -12,25 +12,26 @@ use crate::json::Token;
 use crate::rattle::Pieces;
 use crate::rattle::alloc::AllocError;
 use crate::walk::fields::print_text;
+use crate::walk::language::next_word;
 use crate::walk::out::Out;
 
 const SCHEMA: &str = "https://json.schemastore.org/sarif-2.1.0.json";
 
-/// The pages of ACPI 6.5 that sections begin on, by their chapters.
-const CHAPTERS: [(&str, &str); 5] = [
-    ("5", "05_ACPI_Software_Programming_Model"),
-    ("6", "06_Device_Configuration"),
-    ("8", "08_Processor_Configuration_and_Control"),
-    ("19", "19_ASL_Reference"),
-    ("20", "20_AML_Specification"),
-];
+/// The pages of ACPI 6.5 that sections begin on, after the numbers of their chapters.
+const CHAPTERS: &str = "\
+5 05_ACPI_Software_Programming_Model
+6 06_Device_Configuration
+8 08_Processor_Configuration_and_Control
+19 19_ASL_Reference
+20 20_AML_Specification";
 
 /// The page of a section of ACPI 6.5, if it is of a chapter that rules name.
 fn page_of(section: &str) -> Option<&'static str> {
     let (chapter, _) = section.strip_prefix("ACPI 6.5, section ")?.two_pieces('.')?;
-    for (number, page) in &CHAPTERS {
-        if *number == chapter {
-            return Some(*page);
+    for line in CHAPTERS.pieces('\n') {
+        let (number, page) = next_word(line);
+        if number == chapter {
+            return Some(page);
         }
     }
     None
@@ -47,62 +48,61 @@ fn print_reference(name: &str, out: &mut Out) {
     }
 }
 
-/// Adds a member that is an object with one text.
-fn add_words(document: &mut Document<'_>, name: &str, words: &str) {
-    document.begin_object(name);
-    document.text("text", words);
-    document.token(Token::EndObject);
-}
-
 /// Adds what a rule is.
 fn add_rule(output: Output<'_>, rule: &Rule, document: &mut Document<'_>) {
-    document.token(Token::BeginObject);
-    document.begin_object("defaultConfiguration");
-    document.text("level", rule.severity.word());
-    document.token(Token::EndObject);
-    add_words(document, "help", rule.section);
+    let mut address = Out::new(output.alloc);
     if let Some(page) = page_of(rule.section) {
-        let mut address = Out::new(output.alloc);
         address.fill("https://uefi.org/specs/ACPI/6.5/$.html", &[page]);
-        document.text("helpUri", address.printed().unwrap_or(""));
     }
-    document.text("id", rule.id);
-    add_words(document, "shortDescription", rule.what);
+    let names = "defaultConfiguration.level help.text helpUri id shortDescription.text";
+    let texts = [rule.severity.word(), rule.section, address.printed().unwrap_or(""), rule.id, rule.what];
+    document.token(Token::BeginObject);
+    document.texts(names, &texts);
     document.token(Token::EndObject);
 }
 
-/// Adds the table and the field of a finding, and its place: in its file, or at its address.
+/// Adds a member that is an object with a number.
+fn add_number(document: &mut Document<'_>, outer: &str, name: &str, number: u64) {
+    document.begin_object(outer);
+    document.number(name, number);
+    document.token(Token::EndObject);
+}
+
+/// Adds the place of a finding: in its file, or at its address in the input.
+fn add_place(output: Output<'_>, finding: &Finding, entry: &Entry<'_>, document: &mut Document<'_>) {
+    let offset = finding.offset as u64;
+    let mut reference = Out::new(output.alloc);
+    document.begin_object("physicalLocation");
+    match entry.place {
+        Place::File(file) => print_reference(file, &mut reference),
+        _ => print_reference(output.name(), &mut reference),
+    }
+    if let Place::Address(address) = entry.place {
+        let address = address.saturating_add(offset);
+        add_number(document, "address", "absoluteAddress", address);
+    }
+    let reference = reference.printed().unwrap_or("");
+    document.texts("artifactLocation.uri", &[reference]);
+    if let Place::File(_) = entry.place {
+        add_number(document, "region", "byteOffset", offset);
+    }
+    document.token(Token::EndObject);
+}
+
+/// Adds the table and the field of a finding, and its place.
 fn add_location(output: Output<'_>, finding: &Finding, entry: &Entry<'_>, document: &mut Document<'_>) {
     let mut name = Out::new(output.alloc);
     print_text(&own_signature(entry.bytes).to_bytes(), &mut name);
     if !finding.field.is_empty() {
         name.fill(".$", &[finding.field]);
     }
+    document.token(Token::BeginObject);
     document.begin_list("logicalLocations");
     document.token(Token::BeginObject);
     document.text("fullyQualifiedName", name.printed().unwrap_or(""));
     document.token(Token::EndObject);
     document.token(Token::EndArray);
-    document.begin_object("physicalLocation");
-    let mut file = output.name();
-    if let Place::Address(address) = entry.place {
-        document.begin_object("address");
-        document.number("absoluteAddress", address.saturating_add(finding.offset as u64));
-        document.token(Token::EndObject);
-    }
-    if let Place::File(name) = entry.place {
-        file = name;
-    }
-    let mut reference = Out::new(output.alloc);
-    print_reference(file, &mut reference);
-    document.begin_object("artifactLocation");
-    document.text("uri", reference.printed().unwrap_or(""));
-    document.token(Token::EndObject);
-    if let Place::File(_) = entry.place {
-        document.begin_object("region");
-        document.number("byteOffset", finding.offset as u64);
-        document.token(Token::EndObject);
-    }
+    add_place(output, finding, entry, document);
     document.token(Token::EndObject);
 }
 
@@ -117,11 +117,11 @@ fn add_result(
     document.token(Token::BeginObject);
     document.text("level", finding.rule.severity.word());
     document.begin_list("locations");
-    document.token(Token::BeginObject);
     add_location(output, finding, entry, document);
-    document.token(Token::EndObject);
     document.token(Token::EndArray);
-    add_words(document, "message", findings.message(finding));
+    document.begin_object("message");
+    document.text("text", findings.message(finding));
+    document.token(Token::EndObject);
     document.text("ruleId", finding.rule.id);
     document.token(Token::EndObject);
 }

@@ -339,7 +339,8 @@ pub(super) fn print_digest(side: Side<'_>, number: usize, part: &Part, out: &mut
     for item in side.items_in(number) {
         if item.part == number && tells(item) && count < 4 {
             let meaning = side.meaning(item);
-            let value = if meaning.is_empty() { Value(side.digits(item)) } else { Words(meaning, 48) };
+            let value =
+                if meaning.is_empty() || part.own.is_some() { Value(side.digits(item)) } else { Words(meaning, 48) };
             let name = if part.own.is_some() { "" } else { item.name };
             let pieces = [word_if(count > 0, ", "), Text(name), value];
             print_html("$$ $", &pieces, out);

@@ -1,7 +1,7 @@
 // Made by scripts/erase of crates/acpi_dump_page/src/html/script.rt, where it is proved.
 //! The script of a page. Without it the links, the folds and the bytes are there too.
 
-/// The SHA-256 of the script, in base64, which scripts/check_html compares with it.
+/// The SHA-256 of the script, in base64, which scripts/check/html compares with it.
 pub(super) const SCRIPT_HASH: &str = "g7Bxd9MxE7HCMTOT6SCXL0/FhxxdV5fnj+6Xfu3YYzQ=";
 
 /// The script: what is under the pointer or has the focus is marked with its bytes, and the other way round.

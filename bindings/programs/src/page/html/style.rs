@@ -1,7 +1,7 @@
 // Made by scripts/erase of crates/acpi_dump_page/src/html/style.rt, where it is proved.
 //! The style of a page.
 
-/// The SHA-256 of the style, in base64, which scripts/check_html compares with it.
+/// The SHA-256 of the style, in base64, which scripts/check/html compares with it.
 pub(super) const STYLE_HASH: &str = "5Pb7pLKRMNKMtAJvJWbF68nqVPuanuBhF2oLR85dFG8=";
 
 /// The style: the colours stand at its front, and are other ones in the dark.

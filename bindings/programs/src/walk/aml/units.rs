@@ -8,14 +8,14 @@ use zacpi::sleep::name::{Name, name_at};
 
 /// A unit of a field: its name, if it has one, how many bits it takes, and where it ends.
 #[derive(Clone, Copy)]
-pub(super) struct Unit {
-    pub(super) name: Option<Name>,
-    pub(super) bits: u64,
-    pub(super) end: usize,
+pub struct Unit {
+    pub name: Option<Name>,
+    pub bits: u64,
+    pub end: usize,
 }
 
 /// The unit at an offset.
-pub(super) fn unit_at(aml: &[u8], at: usize) -> Result<Unit, AmlError> {
+pub fn unit_at(aml: &[u8], at: usize) -> Result<Unit, AmlError> {
     let (mut name, mut bits) = (None, 0);
     let end = match aml[at] {
         // ReservedField

@@ -337,9 +337,43 @@ with AEST-rest
 5 2 - Reserved
 7 1 codes Locator type | 0 Processor cache | 1 Memory | 2 SMMU | 3 Memory cache | 4 ACPI device | 5 Interconnect \
     | 0xff Unknown
-8 12 - Locator
+if 7:1 0 MPAM-cache
+if 7:1 1 MPAM-memory
+if 7:1 2 MPAM-smmu
+if 7:1 3 MPAM-memory-cache
+if 7:1 4 MPAM-device
+if 7:1 5 MPAM-interconnect
+if 7:1 6-0xff MPAM-unknown
 20 4 dec Number of functional dependencies
 24 {20:4} each 8 MPAM-dependency
+
+= MPAM-cache * - locator of a processor cache
+8 8 - Cache reference
+16 4 - Reserved
+
+= MPAM-memory * - locator of memory
+8 8 - Proximity domain
+16 4 - Reserved
+
+= MPAM-smmu * - locator of an SMMU
+8 8 - SMMU interface
+16 4 - Reserved
+
+= MPAM-memory-cache * - locator of a memory cache
+8 7 - Reserved
+15 1 dec Level
+16 4 - Reference
+
+= MPAM-device * - locator of an ACPI device
+8 8 text ACPI hardware ID
+16 4 - ACPI unique ID
+
+= MPAM-interconnect * - locator of an interconnect
+8 8 - Interconnect descriptor table offset
+16 4 - Reserved
+
+= MPAM-unknown * - another locator
+8 12 - Locator
 
 = MPAM-dependency * - Functional dependency
 0 4 - Producer

@@ -17,8 +17,23 @@ if 0:4 0x54504246 FBPT-records
 32 4 - Creator Revision
 ";
 
-/// The RSDT (section 5.2.7), the XSDT (5.2.8), the FADT (5.2.9) and the FACS (5.2.10).
+/// The RSDT (section 5.2.7), the XSDT (5.2.8), the FADT (5.2.9) and the FACS (5.2.10), after the RSDP (5.2.5.3), whose
+/// signature goes on after its first three letters and a blank.
 pub(crate) const ROOTS: &str = "
+= RSD * - Root System Description Pointer
+0 8 text Signature
+8 1 - Checksum
+9 6 text OEMID
+15 1 - Revision
+16 4 - RsdtAddress
+if 15:1 1-255 RSD-2
+
+= RSD-2 * - since ACPI 2.0
+20 4 dec Length
+24 8 - XsdtAddress
+32 1 - Extended Checksum
+33 3 - Reserved
+
 = RSDT * - Root System Description Table
 36 4[*] - Entry
 

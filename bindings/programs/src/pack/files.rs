@@ -1,4 +1,4 @@
-// Made by scripts/erase of crates/acpi_cli/src/files.rt, where it is proved.
+// Made by scripts/erase of crates/acpi_pack_lib/src/files.rt, where it is proved.
 //! Files as a program requests them: each name that it requests is listed, with the bytes that were read.
 
 use crate::rattle::alloc::AllocError;

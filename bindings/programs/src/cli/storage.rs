@@ -1,7 +1,7 @@
-// Made by scripts/erase of crates/acpi_pack_lib/src/storage.rt, where it is proved.
+// Made by scripts/erase of crates/acpi_cli/src/storage.rt, where it is proved.
 //! Storages, in which files are saved: each file that was to be saved is listed, with the result.
 
-use crate::pack::save::{SaveError, save};
+use crate::cli::save::{SaveError, save};
 use crate::rattle::alloc::{AllocError, Global};
 use crate::rattle::fs::DirBuilder;
 use crate::rattle::io;

@@ -1,4 +1,4 @@
-// Made by scripts/erase of crates/acpi_pack_lib/src/save.rt, where it is proved.
+// Made by scripts/erase of crates/acpi_cli/src/save.rt, where it is proved.
 //! Saving the file that is made.
 
 use crate::rattle::fs::{self, File, Metadata, OpenOptions};
