@@ -35,7 +35,8 @@
  *
  * A list has its items in the table's order. It writes the first `capacity` of them to `out`, and
  * how many there are in all to `count`: with a capacity of 0 it only counts. Lists that grow with
- * the processors have a call `.._from` too, so that a few places serve any number of items.
+ * the processors have a call `.._from` too, so that a few places serve any number of items; its
+ * `count` is of all items, whatever `from` is.
  *
  * Sections are of the ACPI Specification 6.4 unless another document is named, and names of fields
  * (Length, SCI_INT) are from the document that lays the table out. A field without a comment is
@@ -86,10 +87,13 @@ typedef uint64_t zacpi_size;
 #endif
 #define ZACPI_STATUS static inline ZACPI_CHECKED zacpi_status /* of each call: an inline, below */
 
+#if defined(__GNUC__)
+#pragma GCC diagnostic push
+#pragma GCC diagnostic ignored "-Winline" /* an inline that a compiler calls is none of the caller's */
+#endif
 #ifdef __cplusplus
 extern "C" {
 #if defined(__GNUC__)
-#pragma GCC diagnostic push
 #pragma GCC diagnostic ignored "-Wold-style-cast"
 #endif
 #endif
@@ -223,7 +227,8 @@ enum zacpi_status_code {
                                  * Signature, and a Length that is aml_length */
 };
 
-/* Returns the name of a status, as acpi_view prints it ("MapFailed"), or "Unknown". */
+/* Returns the name of a status, as acpi_view prints it ("MapFailed"), or "Unknown". Each unit that
+ * calls it has all names: one is enough. */
 static inline const char *zacpi_status_name(zacpi_status status) {
     /* One text: a table of pointers would have to be relocated first. */
     static const char names[] =
@@ -397,13 +402,37 @@ ZACPI_STATUS zacpi_start_of_rsdp(const uint8_t *rsdp, size_t rsdp_length,
                                  struct zacpi_source *source);
 
 /* Returns the root table (sections 5.2.7 and 5.2.8). Fails with an opening error, in this order:
- *   what is passed     ZACPI_REGIONS_NOT_ASCENDING or ZACPI_REGION_TOO_HIGH,
- *                      ZACPI_UNKNOWN_POLICY, ZACPI_UNKNOWN_START
+ *   what is passed     ZACPI_REGIONS_NOT_ASCENDING (also of a region of no bytes) or
+ *                      ZACPI_REGION_TOO_HIGH, ZACPI_UNKNOWN_POLICY, ZACPI_UNKNOWN_START
  *   a search           ZACPI_MAP_FAILED (a BIOS search), ZACPI_NO_VALID_RSDP
  *   an RSDP at address ZACPI_MAP_FAILED, ZACPI_RSDP_INCORRECT_SIGNATURE, ..._OEM_ID, ..._CHECKSUM
  *   the root table     the errors of a table, with "RSDT" or "XSDT"
- * The errors of a table are ZACPI_MAP_FAILED and the ZACPI_SDT_ errors; a valid one has none. For
- * the bytes that Length counts, ZACPI_MAP_FAILED comes right before the sum's error (C.md). */
+ *
+ * Each start looks at, in this order:
+ *   ZACPI_START_RSDP (section 5.2.5.3): that its 36 bytes are mapped, Signature, OEMID, and the sum
+ *     of the first 20 bytes; above revision 0 also that Length is at least 36, that Length bytes
+ *     are mapped, and their sum. The root table is the XSDT if the revision is above 0 and
+ *     XsdtAddress isn't 0, else the RSDT.
+ *   ZACPI_START_SEARCH (section 5.2.5.1): the first KiB of the extended BIOS data area (EBDA), as
+ *     far as it is below 0xa0000, if the word at 0x40e (its segment) is mapped and it begins at
+ *     0x400 or above; then 0xe0000 to 0xfffff. An RSDP begins at a multiple of 16, with 20 bytes in
+ *     the area. The first valid one counts, at which a start would have no error except the root
+ *     table's. One that isn't mapped is skipped, so no area has to be mapped.
+ *   ZACPI_START_BIOS_SEARCH: 0xe0000 to 0xfffff and, if no RSDP there is valid, the EBDA's first
+ *     KiB, or 0x80000 to 0x9ffff if it doesn't begin in these. The word at 0x40e has to be mapped,
+ *     and so has each area that is looked at, with the 16 bytes after it.
+ *
+ * The members of the root table are what its pointers point to, from byte 36 on, of 4 bytes in an
+ * RSDT and 8 in an XSDT. A last pointer that is cut off is filled up with zeros.
+ *
+ * A table is valid if it has none of the errors of a table, in this order (section 5.2.6):
+ * ZACPI_MAP_FAILED if 36 bytes aren't mapped at its address, ZACPI_SDT_INVALID_SIGNATURE,
+ * ..._OEM_ID, ..._TABLE_ID, ..._LENGTH, ZACPI_MAP_FAILED if Length bytes aren't mapped, and
+ * ZACPI_SDT_INVALID_CHECKSUM (sums are modulo 256). A ZACPI_SDT_ error writes the signature that
+ * the table has to have: the call's, or its own in calls about tables of any signature. The least
+ * length is where the fixed fields end: 116 for a FADT, 44 for a MADT, an MCFG or a SLIT, 48 for an
+ * SRAT, a DMAR or an IVRS, 56 for an HPET or a BGRT, 80 for an SPCR, 96 for a GTDT, and 36 for any
+ * other table and for tables of any signature. */
 ZACPI_STATUS zacpi_open(const struct zacpi_source *source, struct zacpi_root *out,
                         struct zacpi_signature *signature);
 
@@ -416,8 +445,18 @@ ZACPI_STATUS zacpi_get_rsdp(const struct zacpi_source *source, struct zacpi_rsdp
 
 /* Lists the memory that the tables still need and no one region contains (C.md). A kernel maps what
  * it can, joins it with its regions' ranges (zacpi_clip_ranges), and repeats, until no new range
- * comes. Each has at least two bytes. Fails with ZACPI_REGIONS_NOT_ASCENDING,
- * ZACPI_REGION_TOO_HIGH, ZACPI_UNKNOWN_POLICY or ZACPI_UNKNOWN_START; none writes `signature`. */
+ * comes. Each has at least two bytes. In order, these are:
+ *   - even if opening fails, a range for each RSDP, up to the one that counts, whose 36 bytes are
+ *     mapped but not all of its Length. A BIOS search lists none of these if the word at 0x40e or
+ *     the first area isn't mapped, and none of a second area that isn't;
+ *   - if opening fails with ZACPI_MAP_FAILED, what it needed. For ZACPI_START_SEARCH that is
+ *     neither the word at 0x40e nor an RSDP's 36 bytes;
+ *   - if the tables are opened, a range for each member that is skipped with ZACPI_MAP_FAILED, of
+ *     its 36 bytes of header or of its Length; then, for the same reason, one for the DSDT and one
+ *     for the FACS of the first valid FADT. The FACS needs its Signature and a Length of at least
+ *     64 first (sections 5.2.10 and 5.2.11.1).
+ * Fails with ZACPI_REGIONS_NOT_ASCENDING, ZACPI_REGION_TOO_HIGH, ZACPI_UNKNOWN_POLICY or
+ * ZACPI_UNKNOWN_START; none writes `signature`. */
 ZACPI_STATUS zacpi_list_missing_ranges(const struct zacpi_source *source, struct zacpi_range *out,
                                        size_t capacity, size_t *count,
                                        struct zacpi_signature *signature);
@@ -489,8 +528,8 @@ ZACPI_STATUS zacpi_list_ssdts(const struct zacpi_source *source, struct zacpi_am
 
 /* Lists the memory of the tables, which is to be kept: of the RSDP, the root table, each listed
  * table that is valid under its own signature, and the DSDT and FACS that zacpi_get_dsdt and
- * zacpi_get_facs return (sections 5.2.5 to 5.2.11). The ranges may overlap; C.md has what isn't
- * among them. Fails with an opening error. */
+ * zacpi_get_facs return (sections 5.2.5 to 5.2.11). The ranges may overlap; C.md lists what
+ * isn't among them. Fails with an opening error. */
 ZACPI_STATUS zacpi_list_ranges(const struct zacpi_source *source, struct zacpi_range *out,
                                size_t capacity, size_t *count, struct zacpi_signature *signature);
 
@@ -936,8 +975,8 @@ ZACPI_STATUS zacpi_list_nmi_lines(const struct zacpi_source *source, struct zacp
 ZACPI_STATUS zacpi_list_processors(const struct zacpi_source *source, struct zacpi_processor *out,
                                    size_t capacity, size_t *count,
                                    struct zacpi_signature *signature);
-/* Lists the items of zacpi_list_processors from the `from`-th on, from 0 on. Fails with an opening
- * error, ZACPI_TABLE_MISSING "APIC", or ZACPI_NO_APICS. */
+/* Lists the items of zacpi_list_processors from the `from`-th on, from 0 on; `count` is of all.
+ * Fails with an opening error, ZACPI_TABLE_MISSING "APIC", or ZACPI_NO_APICS. */
 ZACPI_STATUS zacpi_list_processors_from(const struct zacpi_source *source, size_t from,
                                         struct zacpi_processor *out, size_t capacity,
                                         size_t *count, struct zacpi_signature *signature);
@@ -1089,8 +1128,8 @@ ZACPI_STATUS zacpi_get_gic_distributor(const struct zacpi_source *source,
 ZACPI_STATUS zacpi_list_gic_cpu_interfaces(const struct zacpi_source *source,
                                            struct zacpi_gic_cpu_interface *out, size_t capacity,
                                            size_t *count, struct zacpi_signature *signature);
-/* Lists the items of zacpi_list_gic_cpu_interfaces from the `from`-th on, from 0 on. Fails with an
- * opening error, ZACPI_TABLE_MISSING "APIC", or ZACPI_NO_GIC. */
+/* Lists the items of zacpi_list_gic_cpu_interfaces from the `from`-th on, from 0 on; `count` is of
+ * all. Fails with an opening error, ZACPI_TABLE_MISSING "APIC", or ZACPI_NO_GIC. */
 ZACPI_STATUS zacpi_list_gic_cpu_interfaces_from(const struct zacpi_source *source, size_t from,
                                                 struct zacpi_gic_cpu_interface *out,
                                                 size_t capacity, size_t *count,
@@ -1218,8 +1257,8 @@ ZACPI_STATUS zacpi_list_aplics(const struct zacpi_source *source, struct zacpi_a
                                size_t capacity, size_t *count, struct zacpi_signature *signature);
 ZACPI_STATUS zacpi_list_plics(const struct zacpi_source *source, struct zacpi_plic *out,
                               size_t capacity, size_t *count, struct zacpi_signature *signature);
-/* Lists the items of zacpi_list_rintcs from the `from`-th on, from 0 on. Fails with an opening
- * error, ZACPI_TABLE_MISSING "APIC", or ZACPI_NO_RISCV. */
+/* Lists the items of zacpi_list_rintcs from the `from`-th on, from 0 on; `count` is of all. Fails
+ * with an opening error, ZACPI_TABLE_MISSING "APIC", or ZACPI_NO_RISCV. */
 ZACPI_STATUS zacpi_list_rintcs_from(const struct zacpi_source *source, size_t from,
                                     struct zacpi_rintc *out, size_t capacity, size_t *count,
                                     struct zacpi_signature *signature);
@@ -1270,8 +1309,8 @@ ZACPI_STATUS zacpi_list_memory_affinities(const struct zacpi_source *source,
 ZACPI_STATUS zacpi_list_processor_affinities(const struct zacpi_source *source,
                                              struct zacpi_processor_affinity *out, size_t capacity,
                                              size_t *count, struct zacpi_signature *signature);
-/* Lists the items of zacpi_list_processor_affinities from the `from`-th on, from 0 on. Fails with an
- * opening error, or ZACPI_TABLE_MISSING "SRAT". */
+/* Lists the items of zacpi_list_processor_affinities from the `from`-th on, from 0 on; `count` is
+ * of all. Fails with an opening error, or ZACPI_TABLE_MISSING "SRAT". */
 ZACPI_STATUS zacpi_list_processor_affinities_from(const struct zacpi_source *source, size_t from,
                                                   struct zacpi_processor_affinity *out,
                                                   size_t capacity, size_t *count,
@@ -1551,9 +1590,9 @@ ZACPI_STATUS zacpi_list_ivrs_memory(const struct zacpi_source *source, uint16_t 
 #pragma pack(pop)
 
 #ifdef __cplusplus
+}
+#endif
 #if defined(__GNUC__)
 #pragma GCC diagnostic pop
-#endif
-}
 #endif
 #endif

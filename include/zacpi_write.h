@@ -107,7 +107,7 @@ struct zacpi_facs_contents { /* section 5.2.10 */
 };
 
 /* Writes an RSDP of revision 2 that points to an XSDT (section 5.2.5.3): 36 bytes. Of `ids` it has
- * OEMID alone. Fails with ZACPI_NO_ADDRESS if `xsdt` is 0, ZACPI_BAD_NAME, also of another name, or
+ * only OEMID. Fails with ZACPI_NO_ADDRESS if `xsdt` is 0, ZACPI_BAD_NAME, also of another name, or
  * ZACPI_NO_ROOM. */
 ZACPI_STATUS zacpi_write_rsdp(const struct zacpi_table_ids *ids, uint64_t xsdt, uint8_t *out,
                               size_t capacity, size_t *length);

@@ -92,7 +92,7 @@ view! {
 }
 
 view! {
-    /// Regulatory Graphics Resource Table (RGRT; ACPI 6.5, section 5.2.35). Compared with no other reader: a hint.
+    /// Regulatory Graphics Resource Table (RGRT; ACPI 6.5, section 5.2.35).
     Rgrt 36 of 40 {
         version: u16 @ 36, image_type: u8 @ 38, reserved: u8 @ 39,
     }
@@ -163,7 +163,7 @@ view! {
 }
 
 view! {
-    /// Platform Health Assessment Table (PHAT; ACPI 6.5, section 5.2.32). Compared with no other reader: a hint.
+    /// Platform Health Assessment Table (PHAT; ACPI 6.5, section 5.2.32).
     Phat 36 of 36 { }
     lists {
         records: PhatRecord = (|_| 36, |_| usize::MAX, |b| length(number(b, 2, 2))),
@@ -171,14 +171,14 @@ view! {
 }
 
 view! {
-    /// What each record begins with (PHAT; ACPI 6.5, section 5.2.32). Compared with no other reader: a hint.
+    /// What each record begins with (PHAT; ACPI 6.5, section 5.2.32).
     PhatRecordHead 0 of 5 {
         platform_health_assessment_record_type: u16 @ 0, record_length: u16 @ 2, revision: u8 @ 4,
     }
 }
 
 view! {
-    /// Firmware Version Data Record (PHAT; ACPI 6.5, section 5.2.32). Compared with no other reader: a hint.
+    /// Firmware Version Data Record (PHAT; ACPI 6.5, section 5.2.32).
     PhatRecordFirmwareVersionDataRecord 0 of 12 {
         platform_health_assessment_record_type: u16 @ 0, record_length: u16 @ 2, revision: u8 @ 4, reserved: 3 @ 5,
         record_count: u32 @ 8,
@@ -189,14 +189,14 @@ view! {
 }
 
 view! {
-    /// Version Element (PHAT; ACPI 6.5, section 5.2.32). Compared with no other reader: a hint.
+    /// Version Element (PHAT; ACPI 6.5, section 5.2.32).
     PhatVersion 0 of 28 {
         component_id: 16 @ 0, version_value: u64 @ 16, producer_id: 4 @ 24,
     }
 }
 
 view! {
-    /// Firmware Health Data Record (PHAT; ACPI 6.5, section 5.2.32). Compared with no other reader: a hint.
+    /// Firmware Health Data Record (PHAT; ACPI 6.5, section 5.2.32).
     PhatRecordFirmwareHealthDataRecord 0 of 28 {
         platform_health_assessment_record_type: u16 @ 0, record_length: u16 @ 2, revision: u8 @ 4, reserved: u16 @ 5,
         amhealthy: u8 @ 7, device_signature: 16 @ 8, device_specific_data_offset: u32 @ 24,
@@ -208,7 +208,7 @@ view! {
 }
 
 view! {
-    /// Platform Runtime Mechanism Table (PRMT; Platform Runtime Mechanism 1.0). Compared with no other reader: a hint.
+    /// Platform Runtime Mechanism Table (PRMT; Platform Runtime Mechanism 1.0).
     Prmt 36 of 60 {
         prm_platform_guid: 16 @ 36, prm_module_info_offset: u32 @ 52, prm_module_info_count: u32 @ 56,
     }
@@ -218,7 +218,7 @@ view! {
 }
 
 view! {
-    /// PRM Module Information Structure (PRMT; Platform Runtime Mechanism 1.0). Compared with no other reader: a hint.
+    /// PRM Module Information Structure (PRMT; Platform Runtime Mechanism 1.0).
     PrmtModule 0 of 38 {
         structure_revision: u16 @ 0, structure_length: u16 @ 2, identifier: 16 @ 4, major_revision: u16 @ 20,
         minor_revision: u16 @ 22, handler_count: u16 @ 24, handler_info_offset: u32 @ 26,
@@ -231,7 +231,7 @@ view! {
 }
 
 view! {
-    /// PRM Handler Information Structure (PRMT; Platform Runtime Mechanism 1.0). Compared with no other reader: a hint.
+    /// PRM Handler Information Structure (PRMT; Platform Runtime Mechanism 1.0).
     PrmtHandler 0 of 44 {
         structure_revision: u16 @ 0, structure_length: u16 @ 2, identifier: 16 @ 4, physical_address: u64 @ 20,
         static_data_buffer: u64 @ 28, acpi_parameter_buffer: u64 @ 36,
@@ -1730,8 +1730,7 @@ view! {
 }
 
 view! {
-    /// Virtual I/O Translation Table (VIOT; Virtual I/O Translation Table, version 0). Compared with no other reader: a
-    /// hint.
+    /// Virtual I/O Translation Table (VIOT; Virtual I/O Translation Table, version 0).
     Viot 36 of 48 {
         node_count: u16 @ 36, node_offset: u16 @ 38, reserved: u64 @ 40,
     }
@@ -1741,15 +1740,14 @@ view! {
 }
 
 view! {
-    /// What each node begins with (VIOT; Virtual I/O Translation Table, version 0). Compared with no other reader: a
-    /// hint.
+    /// What each node begins with (VIOT; Virtual I/O Translation Table, version 0).
     ViotNodeHead 0 of 4 {
         type_: u8 @ 0, reserved: u8 @ 1, length: u16 @ 2,
     }
 }
 
 view! {
-    /// PCI Range (VIOT; Virtual I/O Translation Table, version 0). Compared with no other reader: a hint.
+    /// PCI Range (VIOT; Virtual I/O Translation Table, version 0).
     ViotNodePciRange 0 of 24 {
         type_: u8 @ 0, reserved: u8 @ 1, length: u16 @ 2, endpoint_start: u32 @ 4, pci_segment_start: u16 @ 8,
         pci_segment_end: u16 @ 10, pci_bdf_start: u16 @ 12, pci_bdf_end: u16 @ 14, output_node: u16 @ 16,
@@ -1758,7 +1756,7 @@ view! {
 }
 
 view! {
-    /// Single MMIO endpoint (VIOT; Virtual I/O Translation Table, version 0). Compared with no other reader: a hint.
+    /// Single MMIO endpoint (VIOT; Virtual I/O Translation Table, version 0).
     ViotNodeSingleMmioEndpoint 0 of 24 {
         type_: u8 @ 0, reserved: u8 @ 1, length: u16 @ 2, endpoint_id: u32 @ 4, base_address: u64 @ 8,
         output_node: u16 @ 16, reserved_2: 6 @ 18,
@@ -1766,8 +1764,7 @@ view! {
 }
 
 view! {
-    /// Virtio-iommu based on virtio-pci (VIOT; Virtual I/O Translation Table, version 0). Compared with no other reader:
-    /// a hint.
+    /// Virtio-iommu based on virtio-pci (VIOT; Virtual I/O Translation Table, version 0).
     ViotNodeVirtioIommuBasedOnVirtioPci 0 of 16 {
         type_: u8 @ 0, reserved: u8 @ 1, length: u16 @ 2, pci_segment: u16 @ 4, pci_bdf_number: u16 @ 6,
         reserved_2: u64 @ 8,
@@ -1775,8 +1772,7 @@ view! {
 }
 
 view! {
-    /// Virtio-iommu based on virtio-mmio (VIOT; Virtual I/O Translation Table, version 0). Compared with no other reader:
-    /// a hint.
+    /// Virtio-iommu based on virtio-mmio (VIOT; Virtual I/O Translation Table, version 0).
     ViotNodeVirtioIommuBasedOnVirtioMmio 0 of 16 {
         type_: u8 @ 0, reserved: u8 @ 1, length: u16 @ 2, reserved_2: u32 @ 4, base_address: u64 @ 8,
     }
@@ -2378,7 +2374,7 @@ view! {
 }
 
 view! {
-    /// ACPI RAS2 Feature Table (RAS2; ACPI 6.5, section 5.2.21). Compared with no other reader: a hint.
+    /// ACPI RAS2 Feature Table (RAS2; ACPI 6.5, section 5.2.21).
     Ras2 36 of 40 {
         reserved: u16 @ 36, number_of_pcc_descriptors: u16 @ 38,
     }
@@ -2388,15 +2384,14 @@ view! {
 }
 
 view! {
-    /// RAS2 Platform Communication Channel Descriptor (RAS2; ACPI 6.5, section 5.2.21). Compared with no other reader: a
-    /// hint.
+    /// RAS2 Platform Communication Channel Descriptor (RAS2; ACPI 6.5, section 5.2.21).
     Ras2Descriptor 0 of 8 {
         pcc_identifier: u8 @ 0, reserved: u16 @ 1, feature_type: u8 @ 3, instance: u32 @ 4,
     }
 }
 
 view! {
-    /// BIOS Data ACPI Table (BDAT; ACPI 6.5, section 5.2.34). Compared with no other reader: a hint.
+    /// BIOS Data ACPI Table (BDAT; ACPI 6.5, section 5.2.34).
     Bdat 36 of 48 {
         bdat_generic_address_structure: register @ 36,
     }
@@ -2532,7 +2527,7 @@ view! {
 }
 
 view! {
-    /// CXL Early Discovery Table (CEDT; CXL 3.0, section 9.17.1). Compared with no other reader: a hint.
+    /// CXL Early Discovery Table (CEDT; CXL 3.0, section 9.17.1).
     Cedt 36 of 36 { }
     lists {
         structures: CedtStructure = (|_| 36, |_| usize::MAX, |b| length(number(b, 2, 2))),
@@ -2540,14 +2535,14 @@ view! {
 }
 
 view! {
-    /// What each structure begins with (CEDT; CXL 3.0, section 9.17.1). Compared with no other reader: a hint.
+    /// What each structure begins with (CEDT; CXL 3.0, section 9.17.1).
     CedtStructureHead 0 of 4 {
         type_: u8 @ 0, reserved: u8 @ 1, record_length: u16 @ 2,
     }
 }
 
 view! {
-    /// CXL Host Bridge Structure (CHBS) (CEDT; CXL 3.0, section 9.17.1). Compared with no other reader: a hint.
+    /// CXL Host Bridge Structure (CHBS) (CEDT; CXL 3.0, section 9.17.1).
     CedtStructureCxlHostBridgeStructureChbs 0 of 32 {
         type_: u8 @ 0, reserved: u8 @ 1, record_length: u16 @ 2, uid: u32 @ 4, cxl_version: u32 @ 8,
         reserved_2: u32 @ 12, base: u64 @ 16, length: u64 @ 24,
@@ -2559,7 +2554,7 @@ view! {
 }
 
 view! {
-    /// CXL Fixed Memory Window Structure (CFMWS) (CEDT; CXL 3.0, section 9.17.1). Compared with no other reader: a hint.
+    /// CXL Fixed Memory Window Structure (CFMWS) (CEDT; CXL 3.0, section 9.17.1).
     CedtStructureCxlFixedMemoryWindowStructureCfmws 0 of 36 {
         type_: u8 @ 0, reserved: u8 @ 1, record_length: u16 @ 2, reserved_2: u32 @ 4, base_hpa: u64 @ 8,
         window_size: u64 @ 16, encoded_number_of_interleave_ways_eniw: u8 @ 24, interleave_arithmetic: u8 @ 25,
@@ -2581,7 +2576,7 @@ view! {
 }
 
 view! {
-    /// CXL XOR Interleave Math Structure (CXIMS) (CEDT; CXL 3.0, section 9.17.1). Compared with no other reader: a hint.
+    /// CXL XOR Interleave Math Structure (CXIMS) (CEDT; CXL 3.0, section 9.17.1).
     CedtStructureCxlXorInterleaveMathStructureCxims 0 of 8 {
         type_: u8 @ 0, reserved: u8 @ 1, record_length: u16 @ 2, reserved_2: u16 @ 4,
         host_bridge_interleave_granularity_hbig: u8 @ 6, number_of_bitmap_entries_nib: u8 @ 7,
@@ -2589,8 +2584,7 @@ view! {
 }
 
 view! {
-    /// RCEC Downstream Port Association Structure (RDPAS) (CEDT; CXL 3.0, section 9.17.1). Compared with no other reader:
-    /// a hint.
+    /// RCEC Downstream Port Association Structure (RDPAS) (CEDT; CXL 3.0, section 9.17.1).
     CedtStructureRcecDownstreamPortAssociationStructureRdpas 0 of 17 {
         type_: u8 @ 0, reserved: u8 @ 1, record_length: u16 @ 2, rcec_segment_number: u16 @ 4, rcec_bdf: u16 @ 6,
         protocol_type: u8 @ 8, base_address: u64 @ 9,
@@ -2986,7 +2980,7 @@ view! {
 }
 
 view! {
-    /// Arm Generic Diagnostic Dump and Reset Device Interface (AGDI; Arm DEN0093). Compared with no other reader: a hint.
+    /// Arm Generic Diagnostic Dump and Reset Device Interface (AGDI; Arm DEN0093).
     Agdi 36 of 48 {
         flags: u8 @ 36, reserved: 3 @ 37, sdei_event_number: u32 @ 40, gsiv: u32 @ 44,
     }
@@ -2996,7 +2990,7 @@ view! {
 }
 
 view! {
-    /// Arm Performance Monitoring Unit Table (APMT; Arm DEN0117). Compared with no other reader: a hint.
+    /// Arm Performance Monitoring Unit Table (APMT; Arm DEN0117).
     Apmt 36 of 36 { }
     lists {
         nodes: ApmtNode = (|_| 36, |_| usize::MAX, |b| length(number(b, 0, 2))),
@@ -3004,7 +2998,7 @@ view! {
 }
 
 view! {
-    /// Performance Monitoring Unit node (APMT; Arm DEN0117). Compared with no other reader: a hint.
+    /// Performance Monitoring Unit node (APMT; Arm DEN0117).
     ApmtNode 0 of 56 {
         node_length: u16 @ 0, node_flags: u8 @ 2, node_type: u8 @ 3, identifier: u32 @ 4,
         node_instance_primary: u64 @ 8, node_instance_secondary: u32 @ 16, base_address_0: u64 @ 20,
@@ -3018,8 +3012,7 @@ view! {
 }
 
 view! {
-    /// Memory System Resource Partitioning and Monitoring Table (MPAM; Arm DEN0065, 2.0). Compared with no other reader:
-    /// a hint.
+    /// Memory System Resource Partitioning and Monitoring Table (MPAM; Arm DEN0065, 2.0).
     Mpam 36 of 36 { }
     lists {
         nodes: MpamNode = (|_| 36, |_| usize::MAX, |b| length(number(b, 0, 2))),
@@ -3027,7 +3020,7 @@ view! {
 }
 
 view! {
-    /// Memory System Component (MSC) node (MPAM; Arm DEN0065, 2.0). Compared with no other reader: a hint.
+    /// Memory System Component (MSC) node (MPAM; Arm DEN0065, 2.0).
     MpamNode 0 of 72 {
         length: u16 @ 0, interface_type: u8 @ 2, reserved: u8 @ 3, identifier: u32 @ 4, base_address: u64 @ 8,
         mmio_size: u32 @ 16, overflow_interrupt: u32 @ 20, overflow_interrupt_flags: u32 @ 24, reserved_2: u32 @ 28,
@@ -3043,9 +3036,9 @@ view! {
 }
 
 view! {
-    /// Resource node (MPAM; Arm DEN0065, 2.0). Compared with no other reader: a hint.
+    /// Resource node (MPAM; Arm DEN0065, 2.0).
     MpamResource 0 of 24 {
-        identifier: u32 @ 0, ris_index: u8 @ 4, reserved: u16 @ 5, locator_type: u8 @ 7, locator: 12 @ 8,
+        identifier: u32 @ 0, ris_index: u8 @ 4, reserved: u16 @ 5, locator_type: u8 @ 7,
         number_of_functional_dependencies: u32 @ 20,
     }
     lists {
@@ -3054,15 +3047,71 @@ view! {
 }
 
 view! {
-    /// Functional dependency (MPAM; Arm DEN0065, 2.0). Compared with no other reader: a hint.
+    /// Resource node, with the fields of mpam cache (MPAM; Arm DEN0065, 2.0).
+    MpamResourceMpamCache 0 of 24 {
+        identifier: u32 @ 0, ris_index: u8 @ 4, reserved: u16 @ 5, locator_type: u8 @ 7, cache_reference: u64 @ 8,
+        reserved_2: u32 @ 16, number_of_functional_dependencies: u32 @ 20,
+    }
+}
+
+view! {
+    /// Resource node, with the fields of mpam memory (MPAM; Arm DEN0065, 2.0).
+    MpamResourceMpamMemory 0 of 24 {
+        identifier: u32 @ 0, ris_index: u8 @ 4, reserved: u16 @ 5, locator_type: u8 @ 7, proximity_domain: u64 @ 8,
+        reserved_2: u32 @ 16, number_of_functional_dependencies: u32 @ 20,
+    }
+}
+
+view! {
+    /// Resource node, with the fields of mpam smmu (MPAM; Arm DEN0065, 2.0).
+    MpamResourceMpamSmmu 0 of 24 {
+        identifier: u32 @ 0, ris_index: u8 @ 4, reserved: u16 @ 5, locator_type: u8 @ 7, smmu_interface: u64 @ 8,
+        reserved_2: u32 @ 16, number_of_functional_dependencies: u32 @ 20,
+    }
+}
+
+view! {
+    /// Resource node, with the fields of mpam memory cache (MPAM; Arm DEN0065, 2.0).
+    MpamResourceMpamMemoryCache 0 of 24 {
+        identifier: u32 @ 0, ris_index: u8 @ 4, reserved: u16 @ 5, locator_type: u8 @ 7, reserved_2: 7 @ 8,
+        level: u8 @ 15, reference: u32 @ 16, number_of_functional_dependencies: u32 @ 20,
+    }
+}
+
+view! {
+    /// Resource node, with the fields of mpam device (MPAM; Arm DEN0065, 2.0).
+    MpamResourceMpamDevice 0 of 24 {
+        identifier: u32 @ 0, ris_index: u8 @ 4, reserved: u16 @ 5, locator_type: u8 @ 7, acpi_hardware_id: 8 @ 8,
+        acpi_unique_id: u32 @ 16, number_of_functional_dependencies: u32 @ 20,
+    }
+}
+
+view! {
+    /// Resource node, with the fields of mpam interconnect (MPAM; Arm DEN0065, 2.0).
+    MpamResourceMpamInterconnect 0 of 24 {
+        identifier: u32 @ 0, ris_index: u8 @ 4, reserved: u16 @ 5, locator_type: u8 @ 7,
+        interconnect_descriptor_table_offset: u64 @ 8, reserved_2: u32 @ 16,
+        number_of_functional_dependencies: u32 @ 20,
+    }
+}
+
+view! {
+    /// Resource node, with the fields of mpam unknown (MPAM; Arm DEN0065, 2.0).
+    MpamResourceMpamUnknown 0 of 24 {
+        identifier: u32 @ 0, ris_index: u8 @ 4, reserved: u16 @ 5, locator_type: u8 @ 7, locator: 12 @ 8,
+        number_of_functional_dependencies: u32 @ 20,
+    }
+}
+
+view! {
+    /// Functional dependency (MPAM; Arm DEN0065, 2.0).
     MpamDependency 0 of 8 {
         producer: u32 @ 0, reserved: u32 @ 4,
     }
 }
 
 view! {
-    /// RISC-V Hart Capabilities Table (RHCT; RISC-V Hart Capabilities Table, ACPI 6.6). Compared with no other reader: a
-    /// hint.
+    /// RISC-V Hart Capabilities Table (RHCT; RISC-V Hart Capabilities Table, ACPI 6.6).
     Rhct 36 of 56 {
         flags: u32 @ 36, time_base_frequency: u64 @ 40, number_of_rhct_nodes: u32 @ 48,
         offset_to_the_rhct_node_array: u32 @ 52,
@@ -3076,23 +3125,21 @@ view! {
 }
 
 view! {
-    /// What each node begins with (RHCT; RISC-V Hart Capabilities Table, ACPI 6.6). Compared with no other reader: a
-    /// hint.
+    /// What each node begins with (RHCT; RISC-V Hart Capabilities Table, ACPI 6.6).
     RhctNodeHead 0 of 6 {
         type_: u16 @ 0, length: u16 @ 2, revision: u16 @ 4,
     }
 }
 
 view! {
-    /// ISA String Node (RHCT; RISC-V Hart Capabilities Table, ACPI 6.6). Compared with no other reader: a hint.
+    /// ISA String Node (RHCT; RISC-V Hart Capabilities Table, ACPI 6.6).
     RhctNodeIsaStringNode 0 of 8 {
         type_: u16 @ 0, length: u16 @ 2, revision: u16 @ 4, isa_length: u16 @ 6,
     }
 }
 
 view! {
-    /// Cache Management Operation (CMO) Extension Node (RHCT; RISC-V Hart Capabilities Table, ACPI 6.6). Compared with no
-    /// other reader: a hint.
+    /// Cache Management Operation (CMO) Extension Node (RHCT; RISC-V Hart Capabilities Table, ACPI 6.6).
     RhctNodeCacheManagementOperationCmoExtensionNode 0 of 10 {
         type_: u16 @ 0, length: u16 @ 2, revision: u16 @ 4, reserved: u8 @ 6, cbom_block_size: u8 @ 7,
         cbop_block_size: u8 @ 8, cboz_block_size: u8 @ 9,
@@ -3100,16 +3147,336 @@ view! {
 }
 
 view! {
-    /// MMU Node (RHCT; RISC-V Hart Capabilities Table, ACPI 6.6). Compared with no other reader: a hint.
+    /// MMU Node (RHCT; RISC-V Hart Capabilities Table, ACPI 6.6).
     RhctNodeMmuNode 0 of 8 {
         type_: u16 @ 0, length: u16 @ 2, revision: u16 @ 4, reserved: u8 @ 6, mmu_type: u8 @ 7,
     }
 }
 
 view! {
-    /// Hart Info Node (RHCT; RISC-V Hart Capabilities Table, ACPI 6.6). Compared with no other reader: a hint.
+    /// Hart Info Node (RHCT; RISC-V Hart Capabilities Table, ACPI 6.6).
     RhctNodeHartInfoNode 0 of 12 {
         type_: u16 @ 0, length: u16 @ 2, revision: u16 @ 4, number_of_offsets: u16 @ 6, acpi_processor_uid: u32 @ 8,
+    }
+}
+
+view! {
+    /// RISC-V I/O Mapping Table (RIMT; RISC-V I/O Mapping Table 1.0).
+    Rimt 36 of 48 {
+        number_of_rimt_nodes: u32 @ 36, offset_to_rimt_node_array: u32 @ 40, reserved: u32 @ 44,
+    }
+    lists {
+        nodes: RimtNode = (|b| length(number(b, 40, 4)), |b| length(number(b, 36, 4)), |b| length(number(b, 2, 2))),
+    }
+}
+
+view! {
+    /// What each node begins with (RIMT; RISC-V I/O Mapping Table 1.0).
+    RimtNodeHead 0 of 8 {
+        type_: u8 @ 0, revision: u8 @ 1, length: u16 @ 2, reserved: u16 @ 4, id: u16 @ 6,
+    }
+}
+
+view! {
+    /// IOMMU (RIMT; RISC-V I/O Mapping Table 1.0).
+    RimtNodeIommu 0 of 40 {
+        type_: u8 @ 0, revision: u8 @ 1, length: u16 @ 2, reserved: u16 @ 4, id: u16 @ 6, hardware_id: 8 @ 8,
+        base_address: u64 @ 16, flags: u32 @ 24, proximity_domain: u32 @ 28, pcie_segment_number: u16 @ 32,
+        pcie_b_d_f: u16 @ 34, number_of_interrupt_wires: u16 @ 36, interrupt_wire_array_offset: u16 @ 38,
+    }
+    lists {
+        wires: RimtWire = (|b| length(number(b, 38, 2)), |b| length(number(b, 36, 2)), |_| 8),
+    }
+    constants {
+        FLAGS_PCIE_DEVICE: u32 = 0x1, FLAGS_PROXIMITY_DOMAIN_IS_VALID: u32 = 0x2,
+    }
+}
+
+view! {
+    /// Interrupt Wire (RIMT; RISC-V I/O Mapping Table 1.0).
+    RimtWire 0 of 8 {
+        interrupt_number: u32 @ 0, flags: u32 @ 4,
+    }
+    constants {
+        FLAGS_EDGE_TRIGGERED: u32 = 0x0, FLAGS_LEVEL_TRIGGERED: u32 = 0x1, FLAGS_ACTIVE_LOW: u32 = 0x0,
+        FLAGS_ACTIVE_HIGH: u32 = 0x2,
+    }
+}
+
+view! {
+    /// ID Mapping (RIMT; RISC-V I/O Mapping Table 1.0).
+    RimtMapping 0 of 20 {
+        source_id_base: u32 @ 0, number_of_ids: u32 @ 4, destination_device_id_base: u32 @ 8,
+        destination_iommu_offset: u32 @ 12, flags: u32 @ 16,
+    }
+    constants {
+        FLAGS_ATS_REQUIRED: u32 = 0x1, FLAGS_PRI_REQUIRED: u32 = 0x2,
+    }
+}
+
+view! {
+    /// PCIe Root Complex (RIMT; RISC-V I/O Mapping Table 1.0).
+    RimtNodePcieRootComplex 0 of 20 {
+        type_: u8 @ 0, revision: u8 @ 1, length: u16 @ 2, reserved: u16 @ 4, id: u16 @ 6, flags: u32 @ 8,
+        reserved_2: u16 @ 12, pcie_segment_number: u16 @ 14, id_mapping_array_offset: u16 @ 16,
+        number_of_id_mappings: u16 @ 18,
+    }
+    lists {
+        mappings: RimtMapping = (|b| length(number(b, 16, 2)), |b| length(number(b, 18, 2)), |_| 20),
+    }
+    constants {
+        FLAGS_ATS_SUPPORTED: u32 = 0x1, FLAGS_PRI_SUPPORTED: u32 = 0x2,
+    }
+}
+
+view! {
+    /// Platform Device (RIMT; RISC-V I/O Mapping Table 1.0).
+    RimtNodePlatformDevice 0 of 12 {
+        type_: u8 @ 0, revision: u8 @ 1, length: u16 @ 2, reserved: u16 @ 4, id: u16 @ 6,
+        id_mapping_array_offset: u16 @ 8, number_of_id_mappings: u16 @ 10,
+    }
+    lists {
+        mappings: RimtMapping = (|b| length(number(b, 8, 2)), |b| length(number(b, 10, 2)), |_| 20),
+    }
+}
+
+view! {
+    /// I/O Virtualization Table (IOVT; LoongArch I/O Virtualization Table 0.1).
+    Iovt 36 of 48 {
+        iommu_count: u16 @ 36, iommu_offset: u16 @ 38, reserved: u64 @ 40,
+    }
+    lists {
+        units: IovtUnit = (|b| length(number(b, 38, 2)), |b| length(number(b, 36, 2)), |b| length(number(b, 2, 2))),
+    }
+}
+
+view! {
+    /// What each unit begins with (IOVT; LoongArch I/O Virtualization Table 0.1).
+    IovtUnitHead 0 of 4 {
+        type_: u16 @ 0, length: u16 @ 2,
+    }
+}
+
+view! {
+    /// IOMMU version 1 (IOVT; LoongArch I/O Virtualization Table 0.1).
+    IovtUnitIommuVersion1 0 of 64 {
+        type_: u16 @ 0, length: u16 @ 2, flags: u32 @ 4, pci_segment_number: u16 @ 8,
+        physical_address_width: u16 @ 10, virtual_address_width: u16 @ 12, max_page_level: u16 @ 14,
+        page_size_supported: u64 @ 16, iommu_deviceid: u32 @ 24, iommu_base_address: u64 @ 28,
+        iommu_register_size: u32 @ 36, interrupt_type: u8 @ 40, reserved: 3 @ 41, global_system_interrupt: u32 @ 44,
+        proximity_domain: u32 @ 48, max_device_number: u32 @ 52, number_of_device_entries: u32 @ 56,
+        offset_of_device_entries: u32 @ 60,
+    }
+    lists {
+        devices: IovtDevice = (|b| length(number(b, 60, 4)), |b| length(number(b, 56, 4)), |b| length(number(b, 1, 1))),
+    }
+    constants {
+        FLAGS_PCI_DEVICE: u32 = 0x1, FLAGS_PROXIMITY_DOMAIN_IS_VALID: u32 = 0x2,
+        FLAGS_MANAGEABLE_DEVICES_RANGE: u32 = 0x4, FLAGS_HW_CAPABILITY_SUPPORTED: u32 = 0x8,
+        FLAGS_MSI_INTERRUPT_ADDRESS: u32 = 0x10,
+    }
+}
+
+view! {
+    /// What each device begins with (IOVT; LoongArch I/O Virtualization Table 0.1).
+    IovtDeviceHead 0 of 8 {
+        type_: u8 @ 0, length: u8 @ 1, flags: u8 @ 2, reserved: 3 @ 3, deviceid: u16 @ 6,
+    }
+}
+
+view! {
+    /// A single PCI device (IOVT; LoongArch I/O Virtualization Table 0.1).
+    IovtDeviceASinglePciDevice 0 of 8 {
+        type_: u8 @ 0, length: u8 @ 1, flags: u8 @ 2, reserved: 3 @ 3, deviceid: u16 @ 6,
+    }
+}
+
+view! {
+    /// Start of range (IOVT; LoongArch I/O Virtualization Table 0.1).
+    IovtDeviceStartOfRange 0 of 8 {
+        type_: u8 @ 0, length: u8 @ 1, flags: u8 @ 2, reserved: 3 @ 3, deviceid: u16 @ 6,
+    }
+}
+
+view! {
+    /// End of range (IOVT; LoongArch I/O Virtualization Table 0.1).
+    IovtDeviceEndOfRange 0 of 8 {
+        type_: u8 @ 0, length: u8 @ 1, flags: u8 @ 2, reserved: 3 @ 3, deviceid: u16 @ 6,
+    }
+}
+
+view! {
+    /// ISCSI Boot Firmware Table (IBFT; Microsoft: iSCSI Boot Firmware Table 1.01).
+    Ibft 36 of 48 {
+        reserved: 12 @ 36,
+    }
+    lists {
+        structures: IbftStructure = (|_| 48, |_| 1, |b| length(number(b, 2, 2))),
+    }
+}
+
+view! {
+    /// What each structure begins with (IBFT; Microsoft: iSCSI Boot Firmware Table 1.01).
+    IbftStructureHead 0 of 5 {
+        structure_id: u8 @ 0, version: u8 @ 1, length: u16 @ 2, index: u8 @ 4,
+    }
+}
+
+view! {
+    /// Control (IBFT; Microsoft: iSCSI Boot Firmware Table 1.01).
+    IbftStructureControl 0 of 18 {
+        structure_id: u8 @ 0, version: u8 @ 1, length: u16 @ 2, index: u8 @ 4, flags: u8 @ 5, extensions: u16 @ 6,
+        initiator_offset: u16 @ 8, nic_0_offset: u16 @ 10, target_0_offset: u16 @ 12, nic_1_offset: u16 @ 14,
+        target_1_offset: u16 @ 16,
+    }
+    constants {
+        FLAGS_BOOT_FAILOVER: u8 = 0x1,
+    }
+}
+
+view! {
+    /// Initiator (IBFT; Microsoft: iSCSI Boot Firmware Table 1.01).
+    IbftStructureInitiator 0 of 74 {
+        structure_id: u8 @ 0, version: u8 @ 1, length: u16 @ 2, index: u8 @ 4, flags: u8 @ 5, isns_server: 16 @ 6,
+        slp_server: 16 @ 22, primary_radius_server: 16 @ 38, secondary_radius_server: 16 @ 54,
+        initiator_name_length: u16 @ 70, initiator_name_offset: u16 @ 72,
+    }
+    constants {
+        FLAGS_BLOCK_VALID: u8 = 0x1, FLAGS_FIRMWARE_BOOT_SELECTED: u8 = 0x2,
+    }
+}
+
+view! {
+    /// NIC (IBFT; Microsoft: iSCSI Boot Firmware Table 1.01).
+    IbftStructureNic 0 of 102 {
+        structure_id: u8 @ 0, version: u8 @ 1, length: u16 @ 2, index: u8 @ 4, flags: u8 @ 5, ip_address: 16 @ 6,
+        subnet_mask_prefix: u8 @ 22, origin: u8 @ 23, gateway: 16 @ 24, primary_dns: 16 @ 40, secondary_dns: 16 @ 56,
+        dhcp: 16 @ 72, vlan: u16 @ 88, mac_address: 6 @ 90, pci_bus_dev_func: u16 @ 96, host_name_length: u16 @ 98,
+        host_name_offset: u16 @ 100,
+    }
+    constants {
+        FLAGS_BLOCK_VALID: u8 = 0x1, FLAGS_FIRMWARE_BOOT_SELECTED: u8 = 0x2, FLAGS_GLOBAL: u8 = 0x4,
+        ORIGIN_OTHER: u8 = 0x0, ORIGIN_MANUAL: u8 = 0x1, ORIGIN_WELL_KNOWN: u8 = 0x2, ORIGIN_DHCP: u8 = 0x3,
+        ORIGIN_ROUTER_ADVERTISEMENT: u8 = 0x4, ORIGIN_UNCHANGED: u8 = 0xf,
+    }
+}
+
+view! {
+    /// Target (IBFT; Microsoft: iSCSI Boot Firmware Table 1.01).
+    IbftStructureTarget 0 of 54 {
+        structure_id: u8 @ 0, version: u8 @ 1, length: u16 @ 2, index: u8 @ 4, flags: u8 @ 5,
+        target_ip_address: 16 @ 6, target_ip_socket: u16 @ 22, target_boot_lun: 8 @ 24, chap_type: u8 @ 32,
+        nic_association: u8 @ 33, target_name_length: u16 @ 34, target_name_offset: u16 @ 36,
+        chap_name_length: u16 @ 38, chap_name_offset: u16 @ 40, chap_secret_length: u16 @ 42,
+        chap_secret_offset: u16 @ 44, reverse_chap_name_length: u16 @ 46, reverse_chap_name_offset: u16 @ 48,
+        reverse_chap_secret_length: u16 @ 50, reverse_chap_secret_offset: u16 @ 52,
+    }
+    constants {
+        FLAGS_BLOCK_VALID: u8 = 0x1, FLAGS_FIRMWARE_BOOT_SELECTED: u8 = 0x2, FLAGS_USE_RADIUS_CHAP: u8 = 0x4,
+        FLAGS_USE_RADIUS_RCHAP: u8 = 0x8,
+    }
+}
+
+view! {
+    /// NVMe Boot Firmware Table (NBFT; NVM Express Boot Specification 1.0). Compared with no other reader: a hint.
+    Nbft 36 of 64 {
+        heap_offset: u32 @ 36, heap_length: u32 @ 40, driver_device_path_signature_offset: u32 @ 44,
+        driver_device_path_signature_length: u16 @ 48, minor_revision: u8 @ 50, reserved: 13 @ 51,
+    }
+    lists {
+        controls: NbftControl = (|_| 64, |_| 1, |_| 64),
+    }
+}
+
+view! {
+    /// Control (NBFT; NVM Express Boot Specification 1.0). Compared with no other reader: a hint.
+    NbftControl 0 of 64 {
+        structure_id: u8 @ 0, major_revision: u8 @ 1, minor_revision: u8 @ 2, reserved: u8 @ 3,
+        control_structure_length: u16 @ 4, flags: u8 @ 6, reserved_2: u8 @ 7, host_descriptor_offset: u32 @ 8,
+        host_descriptor_length: u16 @ 12, host_descriptor_version: u8 @ 14, reserved_3: u8 @ 15,
+        hfi_descriptor_list_offset: u32 @ 16, hfi_descriptor_length: u16 @ 20, hfi_descriptor_version: u8 @ 22,
+        number_of_host_fabric_interfaces: u8 @ 23, subsystem_namespace_descriptor_list_offset: u32 @ 24,
+        subsystem_namespace_descriptor_length: u16 @ 28, subsystem_namespace_descriptor_version: u8 @ 30,
+        number_of_subsystem_namespaces: u8 @ 31, security_descriptor_list_offset: u32 @ 32,
+        security_descriptor_length: u16 @ 36, security_descriptor_version: u8 @ 38,
+        number_of_security_profiles: u8 @ 39, discovery_descriptor_list_offset: u32 @ 40,
+        discovery_descriptor_length: u16 @ 44, discovery_descriptor_version: u8 @ 46,
+        number_of_discovery_entries: u8 @ 47, reserved_4: 16 @ 48,
+    }
+    constants {
+        FLAGS_STRUCTURE_VALID: u8 = 0x1,
+    }
+}
+
+view! {
+    /// Host Descriptor (NBFT; NVM Express Boot Specification 1.0). Compared with no other reader: a hint.
+    NbftHostDescriptor 0 of 32 {
+        structure_id: u8 @ 0, flags: u8 @ 1, host_id: 16 @ 2, host_nqn_offset: u32 @ 18, host_nqn_length: u16 @ 22,
+        reserved: u64 @ 24,
+    }
+    constants {
+        FLAGS_DESCRIPTOR_VALID: u8 = 0x1, FLAGS_HOST_ID_IS_CONFIGURED: u8 = 0x2,
+        FLAGS_HOST_NQN_IS_CONFIGURED: u8 = 0x4,
+    }
+}
+
+view! {
+    /// Host Fabric Interface Descriptor (NBFT; NVM Express Boot Specification 1.0). Compared with no other reader: a
+    /// hint.
+    NbftInterface 0 of 32 {
+        structure_id: u8 @ 0, hfi_descriptor_index: u8 @ 1, flags: u8 @ 2, hfi_transport_type: u8 @ 3,
+        reserved: 12 @ 4, hfi_transport_info_descriptor_offset: u32 @ 16,
+        hfi_transport_info_descriptor_length: u16 @ 20, reserved_2: 10 @ 22,
+    }
+    constants {
+        FLAGS_DESCRIPTOR_VALID: u8 = 0x1,
+    }
+}
+
+view! {
+    /// Subsystem Namespace Descriptor (NBFT; NVM Express Boot Specification 1.0). Compared with no other reader: a hint.
+    NbftNamespace 0 of 128 {
+        structure_id: u8 @ 0, ssns_descriptor_index: u16 @ 1, flags: u16 @ 3, transport_type: u8 @ 5,
+        transport_specific_flags: u16 @ 6, primary_discovery_controller_index: u8 @ 8, reserved: u8 @ 9,
+        subsystem_transport_address_offset: u32 @ 10, subsystem_transport_address_length: u16 @ 14,
+        subsystem_transport_service_identifier_offset: u32 @ 16,
+        subsystem_transport_service_identifier_length: u16 @ 20, subsystem_port_id: u16 @ 22, namespace_id: u32 @ 24,
+        namespace_identifier_type: u8 @ 28, namespace_identifier: 16 @ 29, security_profile_descriptor_index: u8 @ 45,
+        primary_hfi_descriptor_index: u8 @ 46, reserved_2: u8 @ 47, secondary_hfi_associations_offset: u32 @ 48,
+        secondary_hfi_associations_length: u16 @ 52, subsystem_and_namespace_nqn_offset: u32 @ 54,
+        subsystem_and_namespace_nqn_length: u16 @ 58, ssns_extended_information_descriptor_offset: u32 @ 60,
+        ssns_extended_information_descriptor_length: u16 @ 64, reserved_3: 62 @ 66,
+    }
+    constants {
+        FLAGS_DESCRIPTOR_VALID: u16 = 0x1,
+    }
+}
+
+view! {
+    /// Security Profile Descriptor (NBFT; NVM Express Boot Specification 1.0). Compared with no other reader: a hint.
+    NbftSecurity 0 of 64 {
+        structure_id: u8 @ 0, security_descriptor_index: u8 @ 1, flags: u16 @ 2, secret_type: u8 @ 4,
+        reserved: u8 @ 5, secure_channel_algorithms_offset: u32 @ 6, secure_channel_algorithms_length: u16 @ 10,
+        authentication_protocols_offset: u32 @ 12, authentication_protocols_length: u16 @ 16,
+        cipher_suites_offset: u32 @ 18, cipher_suites_length: u16 @ 22, dh_groups_offset: u32 @ 24,
+        dh_groups_length: u16 @ 28, secure_hash_functions_offset: u32 @ 30, secure_hash_functions_length: u16 @ 34,
+        secret_keypath_offset: u32 @ 36, secret_keypath_length: u16 @ 40, reserved_2: 22 @ 42,
+    }
+    constants {
+        FLAGS_DESCRIPTOR_VALID: u16 = 0x1,
+    }
+}
+
+view! {
+    /// Discovery Descriptor (NBFT; NVM Express Boot Specification 1.0). Compared with no other reader: a hint.
+    NbftDiscovery 0 of 32 {
+        structure_id: u8 @ 0, flags: u8 @ 1, discovery_descriptor_index: u8 @ 2, hfi_descriptor_index: u8 @ 3,
+        security_profile_descriptor_index: u8 @ 4, reserved: u8 @ 5, discovery_controller_address_offset: u32 @ 6,
+        discovery_controller_address_length: u16 @ 10, discovery_controller_nqn_offset: u32 @ 12,
+        discovery_controller_nqn_length: u16 @ 16, reserved_2: 14 @ 18,
+    }
+    constants {
+        FLAGS_DESCRIPTOR_VALID: u8 = 0x1,
     }
 }
 
@@ -3155,6 +3522,459 @@ view! {
     constants {
         GLOBAL_LOCK_PENDING: u32 = 0x1, GLOBAL_LOCK_OWNED: u32 = 0x2, FLAGS_S4BIOS_F: u32 = 0x1,
         FLAGS_64BIT_WAKE_SUPPORTED_F: u32 = 0x2, OSPM_FLAGS_64BIT_WAKE_F: u32 = 0x1,
+    }
+}
+
+view! {
+    /// Enhanced Resource Director Technology Table (ERDT; Intel Resource Director Technology Architecture Specification
+    /// 1.1).
+    Erdt 36 of 64 {
+        max_clos: u32 @ 36, reserved: 24 @ 40,
+    }
+    lists {
+        domains: ErdtDomain = (|_| 64, |_| usize::MAX, |b| length(number(b, 2, 2))),
+    }
+}
+
+view! {
+    /// What each domain begins with (ERDT; Intel Resource Director Technology Architecture Specification 1.1).
+    ErdtDomainHead 0 of 4 {
+        type_: u16 @ 0, length: u16 @ 2,
+    }
+}
+
+view! {
+    /// Resource Management Domain Description (RMDD) (ERDT; Intel Resource Director Technology Architecture Specification
+    /// 1.1).
+    ErdtDomainResourceManagementDomainDescriptionRmdd 0 of 34 {
+        type_: u16 @ 0, length: u16 @ 2, flags: u16 @ 4, number_of_i_o_l3_slices: u16 @ 6,
+        number_of_i_o_l3_sets: u8 @ 8, number_of_i_o_l3_ways: u8 @ 9, reserved: u64 @ 10, domain_id: u16 @ 18,
+        max_rmid: u32 @ 20, control_register_base_address: u64 @ 24, control_register_size_in_4_kb_pages: u16 @ 32,
+    }
+    lists {
+        structures: ErdtStructure = (|_| 34, |_| usize::MAX, |b| length(number(b, 2, 2))),
+    }
+    constants {
+        FLAGS_CPU_L3_DOMAIN: u16 = 0x1, FLAGS_I_O_L3_DOMAIN: u16 = 0x2,
+    }
+}
+
+view! {
+    /// What each structure begins with (ERDT; Intel Resource Director Technology Architecture Specification 1.1).
+    ErdtStructureHead 0 of 4 {
+        type_: u16 @ 0, length: u16 @ 2,
+    }
+}
+
+view! {
+    /// CPU Agent Collection Description (CACD) (ERDT; Intel Resource Director Technology Architecture Specification 1.1).
+    ErdtStructureCpuAgentCollectionDescriptionCacd 0 of 8 {
+        type_: u16 @ 0, length: u16 @ 2, reserved: u16 @ 4, domain_id: u16 @ 6,
+    }
+}
+
+view! {
+    /// Device Agent Collection Description (DACD) (ERDT; Intel Resource Director Technology Architecture Specification
+    /// 1.1).
+    ErdtStructureDeviceAgentCollectionDescriptionDacd 0 of 8 {
+        type_: u16 @ 0, length: u16 @ 2, reserved: u16 @ 4, domain_id: u16 @ 6,
+    }
+    lists {
+        devices: ErdtDevice = (|_| 8, |_| usize::MAX, |b| length(number(b, 1, 1))),
+    }
+}
+
+view! {
+    /// What each device begins with (ERDT; Intel Resource Director Technology Architecture Specification 1.1).
+    ErdtDeviceHead 0 of 6 {
+        type_: u8 @ 0, length: u8 @ 1, pci_segment_number: u16 @ 2, reserved: u8 @ 4, start_bus_number: u8 @ 5,
+    }
+}
+
+view! {
+    /// PCI Endpoint Device (ERDT; Intel Resource Director Technology Architecture Specification 1.1).
+    ErdtDevicePciEndpointDevice 0 of 6 {
+        type_: u8 @ 0, length: u8 @ 1, pci_segment_number: u16 @ 2, reserved: u8 @ 4, start_bus_number: u8 @ 5,
+    }
+}
+
+view! {
+    /// PCI Sub-hierarchy (ERDT; Intel Resource Director Technology Architecture Specification 1.1).
+    ErdtDevicePciSubHierarchy 0 of 6 {
+        type_: u8 @ 0, length: u8 @ 1, pci_segment_number: u16 @ 2, reserved: u8 @ 4, start_bus_number: u8 @ 5,
+    }
+}
+
+view! {
+    /// Cache Monitoring Registers for CPU Agents (CMRC) (ERDT; Intel Resource Director Technology Architecture
+    /// Specification 1.1).
+    ErdtStructureCacheMonitoringRegistersForCpuAgentsCmrc 0 of 48 {
+        type_: u16 @ 0, length: u16 @ 2, reserved: u32 @ 4, flags: u32 @ 8, register_indexing_function: u8 @ 12,
+        reserved_2: 11 @ 13, cmt_register_block_base_address: u64 @ 24, cmt_register_block_size: u32 @ 32,
+        cmt_register_clump_size: u16 @ 36, cmt_register_clump_stride: u16 @ 38,
+        cmt_counter_upscaling_factor: u64 @ 40,
+    }
+}
+
+view! {
+    /// Memory-bandwidth Monitoring Registers for CPU Agents (MMRC) (ERDT; Intel Resource Director Technology Architecture
+    /// Specification 1.1).
+    ErdtStructureMemoryBandwidthMonitoringRegistersForCpuAgentsMmrc 0 of 56 {
+        type_: u16 @ 0, length: u16 @ 2, reserved: u32 @ 4, flags: u32 @ 8, register_indexing_function: u8 @ 12,
+        reserved_2: 11 @ 13, mbm_register_block_base_address: u64 @ 24, mbm_register_block_size: u32 @ 32,
+        mbm_counter_width: u8 @ 36, mbm_counter_upscaling_factor: u64 @ 37, reserved_3: 7 @ 45,
+        correction_factor_list_length: u32 @ 52,
+    }
+}
+
+view! {
+    /// Memory-bandwidth Allocation Registers for CPU Agents (MARC) (ERDT; Intel Resource Director Technology Architecture
+    /// Specification 1.1).
+    ErdtStructureMemoryBandwidthAllocationRegistersForCpuAgentsMarc 0 of 48 {
+        type_: u16 @ 0, length: u16 @ 2, reserved: u16 @ 4, flags: u16 @ 6, register_indexing_function: u8 @ 8,
+        reserved_2: 7 @ 9, mba_optimal_bandwidth_register_base_address: u64 @ 16,
+        mba_minimum_bandwidth_register_base_address: u64 @ 24, mba_maximum_bandwidth_register_base_address: u64 @ 32,
+        mba_register_block_size: u32 @ 40, mba_bandwidth_control_window_range: u32 @ 44,
+    }
+    constants {
+        FLAGS_OPTIMAL_BANDWIDTH: u16 = 0x1, FLAGS_MINIMUM_BANDWIDTH: u16 = 0x2, FLAGS_MAXIMUM_BANDWIDTH: u16 = 0x4,
+    }
+}
+
+view! {
+    /// Cache Allocation Registers for CPU Agents (CARC) (ERDT; Intel Resource Director Technology Architecture
+    /// Specification 1.1).
+    ErdtStructureCacheAllocationRegistersForCpuAgentsCarc 0 of 4 {
+        type_: u16 @ 0, length: u16 @ 2,
+    }
+}
+
+view! {
+    /// Cache Monitoring Registers for Device Agents (CMRD) (ERDT; Intel Resource Director Technology Architecture
+    /// Specification 1.1).
+    ErdtStructureCacheMonitoringRegistersForDeviceAgentsCmrd 0 of 48 {
+        type_: u16 @ 0, length: u16 @ 2, reserved: u32 @ 4, flags: u32 @ 8, register_indexing_function: u8 @ 12,
+        reserved_2: 11 @ 13, register_base_address: u64 @ 24, register_block_size: u32 @ 32,
+        cmt_register_offset: u16 @ 36, cmt_register_clump_size: u16 @ 38, cmt_counter_upscaling_factor: u64 @ 40,
+    }
+}
+
+view! {
+    /// I/O Bandwidth Monitoring Registers for Device Agents (IBRD) (ERDT; Intel Resource Director Technology Architecture
+    /// Specification 1.1).
+    ErdtStructureIOBandwidthMonitoringRegistersForDeviceAgentsIbrd 0 of 64 {
+        type_: u16 @ 0, length: u16 @ 2, reserved: u32 @ 4, flags: u32 @ 8, register_indexing_function: u8 @ 12,
+        reserved_2: 11 @ 13, register_base_address: u64 @ 24, register_block_size: u32 @ 32,
+        total_i_o_bandwidth_register_offset: u16 @ 36, i_o_miss_bandwidth_register_offset: u16 @ 38,
+        total_i_o_bandwidth_register_clump_size: u16 @ 40, i_o_miss_register_clump_size: u16 @ 42, reserved_3: 7 @ 44,
+        i_o_bandwidth_counter_width: u8 @ 51, i_o_bandwidth_counter_upscaling_factor: u64 @ 52,
+        correction_factor_list_length: u32 @ 60,
+    }
+}
+
+view! {
+    /// I/O Bandwidth Allocation Registers for Device Agents (IBAD) (ERDT; Intel Resource Director Technology Architecture
+    /// Specification 1.1).
+    ErdtStructureIOBandwidthAllocationRegistersForDeviceAgentsIbad 0 of 4 {
+        type_: u16 @ 0, length: u16 @ 2,
+    }
+}
+
+view! {
+    /// Cache Allocation Registers for Device Agents (CARD) (ERDT; Intel Resource Director Technology Architecture
+    /// Specification 1.1).
+    ErdtStructureCacheAllocationRegistersForDeviceAgentsCard 0 of 40 {
+        type_: u16 @ 0, length: u16 @ 2, reserved: u32 @ 4, flags: u32 @ 8, contention_bitmask: u32 @ 12,
+        register_indexing_function: u8 @ 16, reserved_2: 7 @ 17, register_base_address: u64 @ 24,
+        register_block_size: u32 @ 32, cat_register_offset: u16 @ 36, cat_register_block_size: u16 @ 38,
+    }
+    constants {
+        FLAGS_CONTENTION_BITMASK_IS_VALID: u32 = 0x1, FLAGS_NON_CONTIGUOUS_BITMASKS_ARE_SUPPORTED: u32 = 0x2,
+    }
+}
+
+view! {
+    /// Memory Range and Region Mapping Table (MRRM; Intel Resource Director Technology Architecture Specification 1.1).
+    Mrrm 36 of 64 {
+        max_memory_regions_supported: u8 @ 36, region_assignment_type: u8 @ 37, reserved: 26 @ 38,
+    }
+    lists {
+        ranges: MrrmRange = (|_| 64, |_| usize::MAX, |b| length(number(b, 2, 2))),
+    }
+}
+
+view! {
+    /// What each range begins with (MRRM; Intel Resource Director Technology Architecture Specification 1.1).
+    MrrmRangeHead 0 of 4 {
+        type_: u16 @ 0, length: u16 @ 2,
+    }
+}
+
+view! {
+    /// Memory Range (MRRM; Intel Resource Director Technology Architecture Specification 1.1).
+    MrrmRangeMemoryRange 0 of 32 {
+        type_: u16 @ 0, length: u16 @ 2, reserved: u32 @ 4, system_address_base: u64 @ 8,
+        system_address_length: u64 @ 16, region_id_flags: u16 @ 24, static_local_region_id: u8 @ 26,
+        static_remote_region_id: u8 @ 27, reserved_2: u32 @ 28,
+    }
+    constants {
+        REGION_ID_FLAGS_LOCAL_REGION_ID_IS_VALID: u16 = 0x1, REGION_ID_FLAGS_REMOTE_REGION_ID_IS_VALID: u16 = 0x2,
+    }
+}
+
+view! {
+    /// Component Resource Attribute Table (CRAT; as Linux's drivers amdkfd and amdgpu declare them: AMD has published
+    /// neither). Compared with no other reader: a hint.
+    Crat 36 of 48 {
+        total_entries: u32 @ 36, number_of_domains: u16 @ 40, reserved: 6 @ 42,
+    }
+    lists {
+        entries: CratEntry = (|_| 48, |_| usize::MAX, |b| length(number(b, 1, 1))),
+    }
+}
+
+view! {
+    /// What each entry begins with (CRAT; as Linux's drivers amdkfd and amdgpu declare them: AMD has published neither).
+    /// Compared with no other reader: a hint.
+    CratEntryHead 0 of 4 {
+        type_: u8 @ 0, length: u8 @ 1, reserved: u16 @ 2,
+    }
+}
+
+view! {
+    /// Compute Unit Affinity (CRAT; as Linux's drivers amdkfd and amdgpu declare them: AMD has published neither).
+    /// Compared with no other reader: a hint.
+    CratEntryComputeUnitAffinity 0 of 40 {
+        type_: u8 @ 0, length: u8 @ 1, reserved: u16 @ 2, flags: u32 @ 4, proximity_domain: u32 @ 8,
+        processor_id_low: u32 @ 12, number_of_cpu_cores: u16 @ 16, number_of_simd_cores: u16 @ 18,
+        max_waves_per_simd: u16 @ 20, i_o_count: u16 @ 22, hsa_capability: u16 @ 24, lds_size_in_kb: u16 @ 26,
+        wave_front_size: u8 @ 28, number_of_banks: u8 @ 29, micro_engine_id: u16 @ 30, number_of_arrays: u8 @ 32,
+        compute_units_per_array: u8 @ 33, simds_per_compute_unit: u8 @ 34,
+        max_scratch_slots_per_compute_unit: u8 @ 35, reserved_2: u32 @ 36,
+    }
+    constants {
+        FLAGS_ENABLED: u32 = 0x1, FLAGS_HOT_PLUGGABLE: u32 = 0x2, FLAGS_CPU_PRESENT: u32 = 0x4,
+        FLAGS_GPU_PRESENT: u32 = 0x8, FLAGS_IOMMU_PRESENT: u32 = 0x10,
+    }
+}
+
+view! {
+    /// Memory Affinity (CRAT; as Linux's drivers amdkfd and amdgpu declare them: AMD has published neither). Compared
+    /// with no other reader: a hint.
+    CratEntryMemoryAffinity 0 of 40 {
+        type_: u8 @ 0, length: u8 @ 1, reserved: u16 @ 2, flags: u32 @ 4, proximity_domain: u32 @ 8,
+        base_address: u64 @ 12, length_2: u64 @ 20, width: u32 @ 28, reserved_2: u64 @ 32,
+    }
+    constants {
+        FLAGS_ENABLED: u32 = 0x1, FLAGS_HOT_PLUGGABLE: u32 = 0x2, FLAGS_NON_VOLATILE: u32 = 0x4,
+    }
+}
+
+view! {
+    /// Cache Affinity (CRAT; as Linux's drivers amdkfd and amdgpu declare them: AMD has published neither). Compared with
+    /// no other reader: a hint.
+    CratEntryCacheAffinity 0 of 64 {
+        type_: u8 @ 0, length: u8 @ 1, reserved: u16 @ 2, flags: u32 @ 4, processor_id_low: u32 @ 8,
+        sibling_map: 32 @ 12, cache_size: u32 @ 44, cache_level: u8 @ 48, lines_per_tag: u8 @ 49,
+        cache_line_size: u16 @ 50, associativity: u8 @ 52, cache_properties: u8 @ 53, cache_latency: u16 @ 54,
+        reserved_2: u64 @ 56,
+    }
+}
+
+view! {
+    /// TLB Affinity (CRAT; as Linux's drivers amdkfd and amdgpu declare them: AMD has published neither). Compared with
+    /// no other reader: a hint.
+    CratEntryTlbAffinity 0 of 64 {
+        type_: u8 @ 0, length: u8 @ 1, reserved: u16 @ 2, flags: u32 @ 4, processor_id_low: u32 @ 8,
+        sibling_map: 32 @ 12, tlb_level: u32 @ 44, data_tlb_associativity_2_mb: u8 @ 48, data_tlb_size_2_mb: u8 @ 49,
+        instruction_tlb_associativity_2_mb: u8 @ 50, instruction_tlb_size_2_mb: u8 @ 51,
+        data_tlb_associativity_4_kb: u8 @ 52, data_tlb_size_4_kb: u8 @ 53,
+        instruction_tlb_associativity_4_kb: u8 @ 54, instruction_tlb_size_4_kb: u8 @ 55,
+        data_tlb_associativity_1_gb: u8 @ 56, data_tlb_size_1_gb: u8 @ 57,
+        instruction_tlb_associativity_1_gb: u8 @ 58, instruction_tlb_size_1_gb: u8 @ 59, reserved_2: u32 @ 60,
+    }
+}
+
+view! {
+    /// FPU Affinity (CRAT; as Linux's drivers amdkfd and amdgpu declare them: AMD has published neither). Compared with
+    /// no other reader: a hint.
+    CratEntryFpuAffinity 0 of 64 {
+        type_: u8 @ 0, length: u8 @ 1, reserved: u16 @ 2, flags: u32 @ 4, processor_id_low: u32 @ 8,
+        sibling_map: 32 @ 12, fpu_size: u32 @ 44, reserved_2: 16 @ 48,
+    }
+    constants {
+        FLAGS_ENABLED: u32 = 0x1,
+    }
+}
+
+view! {
+    /// I/O Affinity (CRAT; as Linux's drivers amdkfd and amdgpu declare them: AMD has published neither). Compared with
+    /// no other reader: a hint.
+    CratEntryIOAffinity 0 of 64 {
+        type_: u8 @ 0, length: u8 @ 1, reserved: u16 @ 2, flags: u32 @ 4, proximity_domain_from: u32 @ 8,
+        proximity_domain_to: u32 @ 12, i_o_interface_type: u8 @ 16, version_major: u8 @ 17, version_minor: u16 @ 18,
+        minimum_latency: u32 @ 20, maximum_latency: u32 @ 24, minimum_bandwidth_in_mb_s: u32 @ 28,
+        maximum_bandwidth_in_mb_s: u32 @ 32, recommended_transfer_size: u32 @ 36, reserved_2: 24 @ 40,
+    }
+    constants {
+        FLAGS_ENABLED: u32 = 0x1, FLAGS_NON_COHERENT: u32 = 0x2, FLAGS_NO_32_BIT_ATOMICS: u32 = 0x4,
+        FLAGS_NO_64_BIT_ATOMICS: u32 = 0x8, FLAGS_NO_PEER_TO_PEER_DMA: u32 = 0x10,
+        FLAGS_BIDIRECTIONAL: u32 = 0x80000000,
+    }
+}
+
+view! {
+    /// Video Firmware Content Table (VFCT; as Linux's drivers amdkfd and amdgpu declare them: AMD has published neither).
+    /// Compared with no other reader: a hint.
+    Vfct 36 of 76 {
+        table_uuid: 16 @ 36, vbios_image_offset: u32 @ 52, lib1_image_offset: u32 @ 56, reserved: 16 @ 60,
+    }
+}
+
+view! {
+    /// VBIOS Image (VFCT; as Linux's drivers amdkfd and amdgpu declare them: AMD has published neither). Compared with no
+    /// other reader: a hint.
+    VfctImage 0 of 28 {
+        pci_bus: u32 @ 0, pci_device: u32 @ 4, pci_function: u32 @ 8, vendor_id: u16 @ 12, device_id: u16 @ 14,
+        subsystem_vendor_id: u16 @ 16, subsystem_id: u16 @ 18, revision: u32 @ 20, image_length: u32 @ 24,
+    }
+}
+
+view! {
+    /// AMD Secure Processor Table (ASPT; AMD Secure Processor ACPI Table 56956).
+    Aspt 36 of 40 {
+        number_of_structures: u32 @ 36,
+    }
+    lists {
+        structures: AsptStructure = (|_| 40, |b| length(number(b, 36, 4)), |b| length(number(b, 2, 2))),
+    }
+}
+
+view! {
+    /// What each structure begins with (ASPT; AMD Secure Processor ACPI Table 56956).
+    AsptStructureHead 0 of 4 {
+        type_: u16 @ 0, length: u16 @ 2,
+    }
+}
+
+view! {
+    /// ASP Global Registers (ASPT; AMD Secure Processor ACPI Table 56956).
+    AsptStructureAspGlobalRegisters 0 of 32 {
+        type_: u16 @ 0, length: u16 @ 2, reserved: u32 @ 4, feature_register_address: u64 @ 8,
+        interrupt_enable_register_address: u64 @ 16, interrupt_status_register_address: u64 @ 24,
+    }
+}
+
+view! {
+    /// SEV Mailbox Registers (ASPT; AMD Secure Processor ACPI Table 56956).
+    AsptStructureSevMailboxRegisters 0 of 32 {
+        type_: u16 @ 0, length: u16 @ 2, mailbox_interrupt_id: u8 @ 4, reserved: 3 @ 5,
+        cmdresp_register_address: u64 @ 8, cmdbufaddr_lo_register_address: u64 @ 16,
+        cmdbufaddr_hi_register_address: u64 @ 24,
+    }
+}
+
+view! {
+    /// ACPI Mailbox Registers (ASPT; AMD Secure Processor ACPI Table 56956).
+    AsptStructureAcpiMailboxRegisters 0 of 16 {
+        type_: u16 @ 0, length: u16 @ 2, reserved: u32 @ 4, cmdresp_register_address: u64 @ 8,
+    }
+}
+
+view! {
+    /// DMA TXT Protection Ranges Table (DTPR; Intel TXT DMA Protection Ranges 0.73).
+    Dtpr 36 of 44 {
+        flags: u32 @ 36, instance_count: u32 @ 40,
+    }
+    lists {
+        instances: DtprInstance = (|_| 44, |b| length(number(b, 40, 4)), |b|
+            8usize.saturating_add(8usize.saturating_mul(length(number(b, 4, 4))))),
+    }
+}
+
+view! {
+    /// TPR Instance (DTPR; Intel TXT DMA Protection Ranges 0.73).
+    DtprInstance 0 of 8 {
+        flags: u32 @ 0, tpr_count: u32 @ 4,
+    }
+    lists {
+        ranges: DtprRange = (|_| 8, |b| length(number(b, 4, 4)), |_| 8),
+    }
+}
+
+view! {
+    /// TPR (DTPR; Intel TXT DMA Protection Ranges 0.73).
+    DtprRange 0 of 8 {
+        tprn_base_register: u64 @ 0,
+    }
+    constants {
+        TPRN_BASE_REGISTER_READ_ONLY: u64 = 0x8, TPRN_BASE_REGISTER_DISABLED: u64 = 0x10,
+        TPRN_BASE_REGISTER_ADDRESS_IN_MB_MASK: u64 = 0xfffffffffff00000,
+        TPRN_BASE_REGISTER_ADDRESS_IN_MB_SHIFT: u32 = 20,
+    }
+}
+
+view! {
+    /// Key Programming Interface for Root Complex IDE Table (KEYP; Intel Root Complex IDE Programming Guide).
+    Keyp 36 of 40 {
+        reserved: u32 @ 36,
+    }
+    lists {
+        structures: KeypStructure = (|_| 40, |_| usize::MAX, |b| length(number(b, 2, 2))),
+    }
+}
+
+view! {
+    /// What each structure begins with (KEYP; Intel Root Complex IDE Programming Guide).
+    KeypStructureHead 0 of 4 {
+        type_: u8 @ 0, reserved: u8 @ 1, length: u16 @ 2,
+    }
+}
+
+view! {
+    /// Key Configuration Unit (KEYP; Intel Root Complex IDE Programming Guide).
+    KeypStructureKeyConfigurationUnit 0 of 16 {
+        type_: u8 @ 0, reserved: u8 @ 1, length: u16 @ 2, protocol_type: u8 @ 4, version: u8 @ 5,
+        root_port_count: u8 @ 6, flags: u8 @ 7, register_base_address: u64 @ 8,
+    }
+    lists {
+        root_ports: KeypRootPort = (|_| 16, |b| length(number(b, 6, 1)), |_| 4),
+    }
+    constants {
+        FLAGS_TVM_USABLE: u8 = 0x1,
+    }
+}
+
+view! {
+    /// Root Port (KEYP; Intel Root Complex IDE Programming Guide).
+    KeypRootPort 0 of 4 {
+        pci_segment: u16 @ 0, pci_bus: u8 @ 2, pci_device_and_function: u8 @ 3,
+    }
+    constants {
+        PCI_DEVICE_AND_FUNCTION_DEVICE_MASK: u8 = 0xf8, PCI_DEVICE_AND_FUNCTION_DEVICE_SHIFT: u32 = 3,
+        PCI_DEVICE_AND_FUNCTION_FUNCTION_MASK: u8 = 0x7, PCI_DEVICE_AND_FUNCTION_FUNCTION_SHIFT: u32 = 0,
+    }
+}
+
+view! {
+    /// TD Event Log Table (TDEL; Intel Guest-Host-Communication Interface for TDX).
+    Tdel 36 of 56 {
+        reserved: u32 @ 36, log_area_minimum_length_laml: u64 @ 40, log_area_start_address_lasa: u64 @ 48,
+    }
+}
+
+view! {
+    /// SoundWire File Table (SWFT; MIPI DisCo Specification for SoundWire 2.1).
+    Swft 36 of 36 { }
+    lists {
+        files: SwftFile = (|_| 36, |_| usize::MAX, |b| length(number(b, 8, 4))),
+    }
+}
+
+view! {
+    /// File (SWFT; MIPI DisCo Specification for SoundWire 2.1).
+    SwftFile 0 of 12 {
+        vendor_id: u16 @ 0, file_id: u32 @ 2, file_version: u16 @ 6, file_length: u32 @ 8,
     }
 }
 
@@ -3351,7 +4171,7 @@ view! {
 }
 
 view! {
-    /// Confidential Computing Event Log Table (CCEL; ACPI 6.5, section 5.2.36). Compared with no other reader: a hint.
+    /// Confidential Computing Event Log Table (CCEL; ACPI 6.5, section 5.2.36).
     Ccel 36 of 56 {
         cc_type: u8 @ 36, cc_sub_type: u8 @ 37, reserved: u16 @ 38, log_area_minimum_length_laml: u64 @ 40,
         log_area_start_address_lasa: u64 @ 48,
@@ -3359,8 +4179,7 @@ view! {
 }
 
 view! {
-    /// Storage Volume Key Location Table (SVKL; ACPI 6.5, section 5.2.34.2, Intel TDX). Compared with no other reader: a
-    /// hint.
+    /// Storage Volume Key Location Table (SVKL; ACPI 6.5, section 5.2.34.2, Intel TDX).
     Svkl 36 of 40 {
         key_count: u32 @ 36,
     }
@@ -3370,7 +4189,7 @@ view! {
 }
 
 view! {
-    /// Storage Volume Key (SVKL; ACPI 6.5, section 5.2.34.2, Intel TDX). Compared with no other reader: a hint.
+    /// Storage Volume Key (SVKL; ACPI 6.5, section 5.2.34.2, Intel TDX).
     SvklKey 0 of 16 {
         key_type: u16 @ 0, key_format: u16 @ 2, key_size: u32 @ 4, key_address: u64 @ 8,
     }
@@ -3863,6 +4682,16 @@ pub const FIXED_FEATURE_FLAGS_PERSISTENT_CPU_CACHES_NOT_PERSISTENT: u32 = 0x4000
 pub const FIXED_FEATURE_FLAGS_PERSISTENT_CPU_CACHES_PERSISTENT: u32 = 0x800000;
 /// `FIXED_FEATURE_FLAGS_PERSISTENT_CPU_CACHES_RESERVED`.
 pub const FIXED_FEATURE_FLAGS_PERSISTENT_CPU_CACHES_RESERVED: u32 = 0xc00000;
+/// `CRAT_CACHE_FLAGS_ENABLED`.
+pub const CRAT_CACHE_FLAGS_ENABLED: u32 = 0x1;
+/// `CRAT_CACHE_FLAGS_DATA`.
+pub const CRAT_CACHE_FLAGS_DATA: u32 = 0x2;
+/// `CRAT_CACHE_FLAGS_INSTRUCTIONS`.
+pub const CRAT_CACHE_FLAGS_INSTRUCTIONS: u32 = 0x4;
+/// `CRAT_CACHE_FLAGS_CPU`.
+pub const CRAT_CACHE_FLAGS_CPU: u32 = 0x8;
+/// `CRAT_CACHE_FLAGS_SIMD`.
+pub const CRAT_CACHE_FLAGS_SIMD: u32 = 0x10;
 
 kinds! {
     /// FPDT-record: a structure by its type.
@@ -4159,6 +4988,107 @@ kinds! {
         1..=1 => CacheManagementOperationCmoExtensionNode(RhctNodeCacheManagementOperationCmoExtensionNode),
         2..=2 => MmuNode(RhctNodeMmuNode),
         0xffff..=0xffff => HartInfoNode(RhctNodeHartInfoNode),
+    }
+}
+
+kinds! {
+    /// RIMT-node: a structure by its type.
+    RimtNode at 0, 1 {
+        0..=0 => Iommu(RimtNodeIommu),
+        1..=1 => PcieRootComplex(RimtNodePcieRootComplex),
+        2..=2 => PlatformDevice(RimtNodePlatformDevice),
+    }
+}
+
+kinds! {
+    /// IOVT-unit: a structure by its type.
+    IovtUnit at 0, 2 {
+        0..=0 => IommuVersion1(IovtUnitIommuVersion1),
+    }
+}
+
+kinds! {
+    /// IOVT-device: a structure by its type.
+    IovtDevice at 0, 1 {
+        0..=0 => ASinglePciDevice(IovtDeviceASinglePciDevice),
+        1..=1 => StartOfRange(IovtDeviceStartOfRange),
+        2..=2 => EndOfRange(IovtDeviceEndOfRange),
+    }
+}
+
+kinds! {
+    /// IBFT-structure: a structure by its type.
+    IbftStructure at 0, 1 {
+        1..=1 => Control(IbftStructureControl),
+        2..=2 => Initiator(IbftStructureInitiator),
+        3..=3 => Nic(IbftStructureNic),
+        4..=4 => Target(IbftStructureTarget),
+    }
+}
+
+kinds! {
+    /// ERDT-domain: a structure by its type.
+    ErdtDomain at 0, 2 {
+        0..=0 => ResourceManagementDomainDescriptionRmdd(ErdtDomainResourceManagementDomainDescriptionRmdd),
+    }
+}
+
+kinds! {
+    /// ERDT-structure: a structure by its type.
+    ErdtStructure at 0, 2 {
+        1..=1 => CpuAgentCollectionDescriptionCacd(ErdtStructureCpuAgentCollectionDescriptionCacd),
+        2..=2 => DeviceAgentCollectionDescriptionDacd(ErdtStructureDeviceAgentCollectionDescriptionDacd),
+        3..=3 => CacheMonitoringRegistersForCpuAgentsCmrc(ErdtStructureCacheMonitoringRegistersForCpuAgentsCmrc),
+        4..=4 => MemoryBandwidthMonitoringRegistersForCpuAgentsMmrc(ErdtStructureMemoryBandwidthMonitoringRegistersForCpuAgentsMmrc),
+        5..=5 => MemoryBandwidthAllocationRegistersForCpuAgentsMarc(ErdtStructureMemoryBandwidthAllocationRegistersForCpuAgentsMarc),
+        6..=6 => CacheAllocationRegistersForCpuAgentsCarc(ErdtStructureCacheAllocationRegistersForCpuAgentsCarc),
+        7..=7 => CacheMonitoringRegistersForDeviceAgentsCmrd(ErdtStructureCacheMonitoringRegistersForDeviceAgentsCmrd),
+        8..=8 => IOBandwidthMonitoringRegistersForDeviceAgentsIbrd(ErdtStructureIOBandwidthMonitoringRegistersForDeviceAgentsIbrd),
+        9..=9 => IOBandwidthAllocationRegistersForDeviceAgentsIbad(ErdtStructureIOBandwidthAllocationRegistersForDeviceAgentsIbad),
+        10..=10 => CacheAllocationRegistersForDeviceAgentsCard(ErdtStructureCacheAllocationRegistersForDeviceAgentsCard),
+    }
+}
+
+kinds! {
+    /// ERDT-device: a structure by its type.
+    ErdtDevice at 0, 1 {
+        1..=1 => PciEndpointDevice(ErdtDevicePciEndpointDevice),
+        2..=2 => PciSubHierarchy(ErdtDevicePciSubHierarchy),
+    }
+}
+
+kinds! {
+    /// MRRM-range: a structure by its type.
+    MrrmRange at 0, 2 {
+        0..=0 => MemoryRange(MrrmRangeMemoryRange),
+    }
+}
+
+kinds! {
+    /// CRAT-entry: a structure by its type.
+    CratEntry at 0, 1 {
+        0..=0 => ComputeUnitAffinity(CratEntryComputeUnitAffinity),
+        1..=1 => MemoryAffinity(CratEntryMemoryAffinity),
+        2..=2 => CacheAffinity(CratEntryCacheAffinity),
+        3..=3 => TlbAffinity(CratEntryTlbAffinity),
+        4..=4 => FpuAffinity(CratEntryFpuAffinity),
+        5..=5 => IOAffinity(CratEntryIOAffinity),
+    }
+}
+
+kinds! {
+    /// ASPT-structure: a structure by its type.
+    AsptStructure at 0, 2 {
+        0..=0 => AspGlobalRegisters(AsptStructureAspGlobalRegisters),
+        1..=1 => SevMailboxRegisters(AsptStructureSevMailboxRegisters),
+        2..=2 => AcpiMailboxRegisters(AsptStructureAcpiMailboxRegisters),
+    }
+}
+
+kinds! {
+    /// KEYP-structure: a structure by its type.
+    KeypStructure at 0, 1 {
+        0..=0 => KeyConfigurationUnit(KeypStructureKeyConfigurationUnit),
     }
 }
 

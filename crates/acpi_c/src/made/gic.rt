@@ -34,7 +34,7 @@ pub extern "C" fn zacpi_1_list_gic_cpu_interfaces(
     answer(parts(source, out), count, named)
 }
 
-/// Lists the items of zacpi_list_gic_cpu_interfaces from the `from`-th on, from 0 on.
+/// Lists the items of zacpi_list_gic_cpu_interfaces from the `from`-th on, from 0 on; `count` is of all.
 #[unsafe(no_mangle)]
 pub extern "C" fn zacpi_1_list_gic_cpu_interfaces_from(
     source: &Source<'_>,

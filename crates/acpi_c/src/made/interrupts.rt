@@ -111,7 +111,7 @@ pub extern "C" fn zacpi_1_list_processors(
     answer(processors(source, out), count, named)
 }
 
-/// Lists the items of zacpi_list_processors from the `from`-th on, from 0 on.
+/// Lists the items of zacpi_list_processors from the `from`-th on, from 0 on; `count` is of all.
 #[unsafe(no_mangle)]
 pub extern "C" fn zacpi_1_list_processors_from(
     source: &Source<'_>,

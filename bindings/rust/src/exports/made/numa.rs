@@ -37,7 +37,7 @@ pub extern "C" fn zacpi_1_list_processor_affinities(
     answer(srat_entries(source, out), count, named)
 }
 
-/// Lists the items of zacpi_list_processor_affinities from the `from`-th on, from 0 on.
+/// Lists the items of zacpi_list_processor_affinities from the `from`-th on, from 0 on; `count` is of all.
 #[unsafe(no_mangle)]
 pub extern "C" fn zacpi_1_list_processor_affinities_from(
     source: &Source<'_>,

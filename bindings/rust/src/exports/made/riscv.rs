@@ -66,7 +66,7 @@ pub extern "C" fn zacpi_1_list_plics(
     answer(riscv_entries(source, out), count, named)
 }
 
-/// Lists the items of zacpi_list_rintcs from the `from`-th on, from 0 on.
+/// Lists the items of zacpi_list_rintcs from the `from`-th on, from 0 on; `count` is of all.
 #[unsafe(no_mangle)]
 pub extern "C" fn zacpi_1_list_rintcs_from(
     source: &Source<'_>,
