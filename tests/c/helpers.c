@@ -1,10 +1,10 @@
-/* Calls what the C of scripts/ir2c stands on, with results that were worked out by hand: rows of the library see few of
- * these numbers. Where a processor of 32 bits has a way of its own, that is what is called there. Ends with status 1 if
- * a result is another. Run with `end` or `begin`, memory is at pages that can't be touched (edges.h). */
+/* Calls what the C of scripts/translate/ir2c stands on, with results that were worked out by hand: rows of the library
+ * see few of these numbers. Where a processor of 32 bits has a way of its own, that is what is called there. Ends with
+ * status 1 if a result is another. Run with `end` or `begin`, memory is at pages that can't be touched (edges.h). */
 #define _DEFAULT_SOURCE
 #include "edges.h"
 
-#include "../../scripts/ir2c_head.c"
+#include "../../scripts/translate/translator/head.c"
 
 #define ALL (~(u64)0)
 #define HIGH ((u64)1 << 63)

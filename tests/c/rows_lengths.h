@@ -195,7 +195,11 @@ static const struct row length_rows[] = {
     GOOD(open, MANY_LENT, NULL, NO, 1, BIOS + 0x10000, 36, 0, 4, BIOS + 0x1ffe0, 20),
     GOOD(get_rsdp, MANY_LENT, NULL, NO, 1, BIOS + 0x1ffe0, 0, BIOS + 0x10000, 20, 0, 0),
     NOTHING(list_missing_ranges, MANY_LENT), NOTHING(list_missing_ranges, MANY_SEARCHED),
-    GOOD(open, MANY_SEARCHED, NULL, NO, 1, BIOS + 0x10000, 36, 0, 4, BIOS + 0x1ffe0, 20)};
+    GOOD(open, MANY_SEARCHED, NULL, NO, 1, BIOS + 0x10000, 36, 0, 4, BIOS + 0x1ffe0, 20),
+    REFUSED(open, ONLY_HIGH, NULL, NO, ZACPI_MAP_FAILED, NULL),
+    GOOD(list_missing_ranges, ONLY_HIGH, NULL, NO, 1, 0x40e, 2),
+    REFUSED(open, LENT_HIGH, NULL, NO, ZACPI_NO_VALID_RSDP, NULL),
+    REFUSED(get_rsdp, LENT_HIGH, NULL, NO, ZACPI_NO_VALID_RSDP, NULL), NOTHING(list_missing_ranges, LENT_HIGH)};
 
 /* A MADT of FLAWED_PC and an HPET by what is accepted. */
 static const struct {

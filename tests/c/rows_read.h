@@ -47,7 +47,13 @@ static const struct read_row {
     READ(a_madt, list_nmi_sources, sources_of_nmis), READ(a_madt, list_overrides, wirings),
     READ(a_madt, list_io_apics, controllers), READ(a_madt, get_local_apic, read_local_apic),
     READ(a_madt, get_mailbox_address, read_mailbox), READ(a_fadt, get_fixed_hardware, read_pc),
-    READ(a_reduced_fadt, get_fixed_hardware, read_reduced)};
+    READ(a_reduced_fadt, get_fixed_hardware, read_reduced), READ(an_mcfg, list_pci_regions, buses),
+    {an_hpet, &call_get_hpet, &timers_block, 1}, {an_unprotected_hpet, &call_get_hpet, &unprotected, 1},
+    {an_hpet, &call_list_hpets, &timers_block, 1}, {a_bgrt_at_270, &call_get_boot_graphic, &image_at_270, 1},
+    {a_gic, &call_get_gic_distributor, &whole_gic.distributor, 1}, READ(a_gic, list_gic_redistributors, redistributors),
+    READ(a_gic, list_gic_translation_services, services), READ(a_riscv_madt, list_rintcs, rintcs),
+    READ(a_riscv_madt, list_imsics, imsics), READ(a_riscv_madt, list_aplics, aplics),
+    READ(a_riscv_madt, list_plics, plics)};
 
 /* Whether the first items of `out` are these records, and all bytes after them are as they were. */
 static int are_read(const struct call *call, const uint8_t *records, size_t count) {
@@ -59,10 +65,10 @@ static int are_read(const struct call *call, const uint8_t *records, size_t coun
     return is_left_but(&out, count * call->size);
 }
 
-/* The XSDT of 44 bytes is at 0x7fe00000, and the table 48 on. */
-static void check_all_read(void) {
-    static uint8_t written_tables[48 + 276];
-    static const uint64_t address = 0x7fe00030;
+/* The XSDT of 44 bytes is at `base`, and the table 48 on. */
+static void check_read_at(uint64_t base) {
+    static uint8_t written_tables[48 + 400];
+    const uint64_t address = base + 48;
     static const struct row no_argument;
     size_t i;
     for (i = 0; i < sizeof read_rows / sizeof *read_rows; i++) {
@@ -72,8 +78,8 @@ static void check_all_read(void) {
         zacpi_status got = zacpi_write_xsdt(ids, &address, 1, written_tables, 48, &length);
         if (!got) got = row->write(written_tables + 48, sizeof written_tables - 48, &length);
         if (!got) {
-            const struct zacpi_region region = {0x7fe00000, written_tables, 48 + length};
-            const struct zacpi_source source = {all_at_edge(&region, 1), 1, 0x7fe00000, ZACPI_START_XSDT, 0};
+            const struct zacpi_region region = {base, written_tables, 48 + length};
+            const struct zacpi_source source = {all_at_edge(&region, 1), 1, base, ZACPI_START_XSDT, 0};
             got = row->call->run(&no_argument, &source, paint(&out, row->count * row->call->size), row->count, count,
                                  &named);
         }
@@ -81,4 +87,6 @@ static void check_all_read(void) {
                && are_read(row->call, row->records, row->count), row->call->name, (int)i, row->count, got);
     }
 }
+/* Below 4 GiB, and above. */
+static void check_all_read(void) { check_read_at(0x7fe00000), check_read_at(0x97fe00000); }
 #endif

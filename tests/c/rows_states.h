@@ -1,6 +1,6 @@
 /* SPDX-License-Identifier: MIT */
-/* What zacpi_get_sleep_types returns of a DSDT with a block of AML, or with its first bytes: scripts/states made it of
- * crates/acpi_rows/data/sleep.rows. For rows_sleep.h. */
+/* What zacpi_get_sleep_types returns of a DSDT with a block of AML, or with its first bytes: scripts/states made
+ * it of crates/acpi_rows/data/sleep.rows. For rows_sleep.h. */
 #ifndef ROWS_STATES_H
 #define ROWS_STATES_H
 

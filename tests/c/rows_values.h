@@ -68,6 +68,73 @@ static void check_short_entries(void) {
     }
 }
 
+/* An RSDP whose Length has more than 16 bits, in the area of the BIOS, before the root table that it points to. */
+static void check_long_rsdp(void) {
+    static uint8_t area[BIOS_SIZE];
+    static const struct zacpi_region regions[] = {{0x40e, zeros, 2}, {BIOS, area, BIOS_SIZE}};
+    static const uint8_t rsdp[] = {'R', 'S', 'D', ' ', 'P', 'T', 'R', ' ', [15] = 2, [20] = 0x40, 0, 1,
+                                   [26] = 0x0f} /* Length 0x10040, XsdtAddress 0xf0000 */;
+    static const struct zacpi_source sources[] = {{regions, 2, 0, ZACPI_START_BIOS_SEARCH, 0},
+                                                  {regions, 2, 0, ZACPI_START_SEARCH, 0},
+                                                  {regions, 2, BIOS, ZACPI_START_RSDP, 0}};
+    const struct row opened = GOOD(open, 0, NULL, NO, 1, BIOS + 0x10000, 36, 2, 8, BIOS, 0x10040),
+                     found_so = GOOD(get_rsdp, 0, NULL, NO, 1, BIOS, BIOS + 0x10000, 0, 0x10040, 2, 0);
+    static const struct table root = {BIOS + 0x10000, "XSDT", 1, 36, no_fields};
+    size_t i;
+    memcpy(area, rsdp, sizeof rsdp), lay_out_at(area + 0x10000, 36, &root);
+    area[8] = (uint8_t)-zacpi_byte_sum(area, 20), area[32] = (uint8_t)-zacpi_byte_sum(area, 0x10040);
+    for (i = 0; i < 3; i++) check_own(&opened, sources + i, 0), check_own(&found_so, sources + i, 0);
+}
+/* One region with all that a search looks at: the word at 0x40e, the EBDA and the area of the BIOS, without an RSDP and
+ * with one. */
+static void check_one_region(void) {
+    static uint8_t low[2][BIOS + BIOS_SIZE - 0x400];
+    static const struct zacpi_region regions[2][1] = {{{0x400, low[0], sizeof *low}}, {{0x400, low[1], sizeof *low}}};
+    const struct row rows_of[2][2] = {
+        {REFUSED(open, 0, NULL, NO, ZACPI_NO_VALID_RSDP, NULL), NOTHING(list_missing_ranges, 0)},
+        {GOOD(open, 0, NULL, NO, 1, BIOS + 0x10000, 36, 0, 4, BIOS + 0x1ffe0, 20), NOTHING(list_missing_ranges, 0)}};
+    size_t i, k;
+    memcpy(low[0] + 0xe, word, 2), memcpy(low[1] + 0xe, word, 2);
+    memcpy(low[1] + (BIOS - 0x400), bios, BIOS_SIZE);
+    for (i = 0; i < 2; i++)
+        for (k = 0; k < 2; k++) {
+            const struct zacpi_source search = {regions[i], 1, 0, ZACPI_START_BIOS_SEARCH, 0};
+            const struct zacpi_source lent = {regions[i], 1, 0, ZACPI_START_SEARCH, 0};
+            check_own(&rows_of[i][k], &search, 0), check_own(&rows_of[i][k], &lent, 0);
+        }
+}
+/* Without platform timers a Virtual EL2 Timer is where their Offset points to. */
+static void check_no_platform_timers(void) {
+    static uint8_t bytes[40 + 104];
+    static const struct zacpi_region regions[] = {{OWN, bytes, sizeof bytes}};
+    static const struct zacpi_source source = {regions, 1, OWN, ZACPI_START_RSDT, 0};
+    static const struct put root[] = {{36, 4, OWN + 40}, {0, 0, 0}},
+                            puts[] = {{92, 4, 96} /* Platform Timer Offset */, {96, 4, 28} /* Virtual EL2 Timer GSIV */,
+                                      {100, 4, 7} /* Flags: edge, active low, always on */, {0, 0, 0}};
+    static const struct table rsdt = {OWN, "RSDT", 1, 40, root}, gtdt_of_0 = {OWN + 40, "GTDT", 3, 104, puts};
+    const struct row timers_so = GOOD(get_arm_timers, 0, NULL, NO, 1, 0, 0, 0, 1, 3, 0, 1, 0, 1, 3, 0, 1,
+                                             0, 1, 3, 0, 1, 0, 1, 3, 0, 1, 28, 3, 1, 1, 1, 0);
+    lay_out_at(bytes, 40, &rsdt), lay_out_at(bytes + 40, 104, &gtdt_of_0);
+    check_own(&timers_so, &source, 0);
+}
+
+/* An index of 2^32 isn't 0, where a size_t has so many bits. */
+static void check_high_indexes(void) {
+    const uint64_t high = (uint64_t)1 << 32;
+    const struct row high_rows[] = {
+        REFUSED(find_nth_table, HPETS, "HPET", A(high), ZACPI_TABLE_MISSING, "HPET"),
+        REFUSED(list_dmar_scopes, UNITS, NULL, A(high), ZACPI_NO_IOMMU, NULL),
+        REFUSED(list_dmar_structure_scopes, ALL_KINDS, NULL, A(ZACPI_DMAR_ATSR, high), ZACPI_NO_IOMMU, NULL),
+        REFUSED(list_ivrs_entries, UNITS, NULL, A(high), ZACPI_NO_IOMMU, NULL),
+        REFUSED(distance, ARM, NULL, A(high, 0), ZACPI_NO_DISTANCE, NULL),
+        REFUSED(distance, ARM, NULL, A(0, high), ZACPI_NO_DISTANCE, NULL), PAST(list_processors_from, DESKTOP, high, 5),
+        PAST(list_gic_cpu_interfaces_from, ARM, high, 2), PAST(list_rintcs_from, RISCV, high, 2),
+        PAST(list_processor_affinities_from, ALL_KINDS, high, 3)};
+    size_t i;
+    for (i = 0; SIZE_MAX > UINT32_MAX && i < sizeof high_rows / sizeof *high_rows; i++)
+        if (is_there(high_rows[i].call->name)) check_rooms(&high_rows[i]);
+}
+
 static void check_values(void) {
     const struct zacpi_source source = {own_regions, 2, OWN, ZACPI_START_XSDT, 0};
     const struct zacpi_source search = {own_search, 3, 0, ZACPI_START_BIOS_SEARCH, 0};
@@ -80,5 +147,9 @@ static void check_values(void) {
     check_own(&own_accepted, &source, ZACPI_ACCEPT_SUMS);
     check_own(&own_searched, &search, 0);
     check_short_entries();
+    check_long_rsdp();
+    check_one_region();
+    check_no_platform_timers();
+    check_high_indexes();
 }
 #endif
