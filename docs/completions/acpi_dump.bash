@@ -19,7 +19,7 @@ _acpi_dump() {
 
     case "${cmd}" in
         acpi_dump)
-            opts="-c -j -h -V -t -o --at --start --text --force --summary --find --rules --compare --exit-code --ignore --json --strict --max-bytes --help --version --as --table --hex --format --sort --color --check --extract --html --baseline --ignore-rules [INPUT]..."
+            opts="-c -j -h -V -t -o --at --start --code --get --text --force --summary --find --rules --fleet --alike --compare --exit-code --ignore --json --strict --max-bytes --help --version --as --table --hex --format --sort --color --check --extract --html --baseline --ignore-rules --base [INPUT]..."
             if [[ ${cur} == -* || ${COMP_CWORD} -eq 1 ]] ; then
                 COMPREPLY=( $(compgen -W "${opts}" -- "${cur}") )
                 return 0
@@ -30,6 +30,10 @@ _acpi_dump() {
                     return 0
                     ;;
                 --start)
+                    COMPREPLY=($(compgen -f "${cur}"))
+                    return 0
+                    ;;
+                --get)
                     COMPREPLY=($(compgen -f "${cur}"))
                     return 0
                     ;;
@@ -46,15 +50,15 @@ _acpi_dump() {
                     return 0
                     ;;
                 --table)
-                    COMPREPLY=($(compgen -W "all AEST AGDI APIC APMT ASF! BDAT BERT BGRT BOOT CCEL CEDT CPEP CSRT DBG2 DBGP DMAR DRTM DSDT ECDT EINJ ERST FACP FACS FPDT GTDT HEST HMAT HPET IORT IVRS LPIT MCFG MCHI MISC MPAM MPST MSCT MSDM MTMR NFIT NHLT PCCT PDTT PHAT PMTT PPTT PRMT RAS2 RASF RGRT RHCT RSDT SBST SDEI SDEV SLIC SLIT SPCR SPMI SRAT SSDT STAO SVKL TCPA TPM2 UEFI VIOT VRTC WAET WDAT WDDT WDRT WPBT WSMT XENV XSDT" -- "${cur}"))
+                    COMPREPLY=($(compgen -W "all AEST AGDI APIC APMT ASF! ASPT BDAT BERT BGRT BOOT CCEL CEDT CPEP CRAT CSRT DBG2 DBGP DMAR DRTM DSDT DTPR ECDT EINJ ERDT ERST FACP FACS FPDT GTDT HEST HMAT HPET IBFT IORT IOVT IVRS KEYP LPIT MCFG MCHI MISC MPAM MPST MRRM MSCT MSDM MTMR NBFT NFIT NHLT PCCT PDTT PHAT PMTT PPTT PRMT RAS2 RASF RGRT RHCT RIMT RSDP RSDT SBST SDEI SDEV SLIC SLIT SPCR SPMI SRAT SSDT STAO SVKL SWFT TCPA TDEL TPM2 UEFI VFCT VIOT VRTC WAET WDAT WDDT WDRT WPBT WSMT XENV XSDT" -- "${cur}"))
                     return 0
                     ;;
                 -t)
-                    COMPREPLY=($(compgen -W "all AEST AGDI APIC APMT ASF! BDAT BERT BGRT BOOT CCEL CEDT CPEP CSRT DBG2 DBGP DMAR DRTM DSDT ECDT EINJ ERST FACP FACS FPDT GTDT HEST HMAT HPET IORT IVRS LPIT MCFG MCHI MISC MPAM MPST MSCT MSDM MTMR NFIT NHLT PCCT PDTT PHAT PMTT PPTT PRMT RAS2 RASF RGRT RHCT RSDT SBST SDEI SDEV SLIC SLIT SPCR SPMI SRAT SSDT STAO SVKL TCPA TPM2 UEFI VIOT VRTC WAET WDAT WDDT WDRT WPBT WSMT XENV XSDT" -- "${cur}"))
+                    COMPREPLY=($(compgen -W "all AEST AGDI APIC APMT ASF! ASPT BDAT BERT BGRT BOOT CCEL CEDT CPEP CRAT CSRT DBG2 DBGP DMAR DRTM DSDT DTPR ECDT EINJ ERDT ERST FACP FACS FPDT GTDT HEST HMAT HPET IBFT IORT IOVT IVRS KEYP LPIT MCFG MCHI MISC MPAM MPST MRRM MSCT MSDM MTMR NBFT NFIT NHLT PCCT PDTT PHAT PMTT PPTT PRMT RAS2 RASF RGRT RHCT RIMT RSDP RSDT SBST SDEI SDEV SLIC SLIT SPCR SPMI SRAT SSDT STAO SVKL SWFT TCPA TDEL TPM2 UEFI VFCT VIOT VRTC WAET WDAT WDDT WDRT WPBT WSMT XENV XSDT" -- "${cur}"))
                     return 0
                     ;;
                 --hex)
-                    COMPREPLY=($(compgen -W "all AEST AGDI APIC APMT ASF! BDAT BERT BGRT BOOT CCEL CEDT CPEP CSRT DBG2 DBGP DMAR DRTM DSDT ECDT EINJ ERST FACP FACS FPDT GTDT HEST HMAT HPET IORT IVRS LPIT MCFG MCHI MISC MPAM MPST MSCT MSDM MTMR NFIT NHLT PCCT PDTT PHAT PMTT PPTT PRMT RAS2 RASF RGRT RHCT RSDT SBST SDEI SDEV SLIC SLIT SPCR SPMI SRAT SSDT STAO SVKL TCPA TPM2 UEFI VIOT VRTC WAET WDAT WDDT WDRT WPBT WSMT XENV XSDT" -- "${cur}"))
+                    COMPREPLY=($(compgen -W "all AEST AGDI APIC APMT ASF! ASPT BDAT BERT BGRT BOOT CCEL CEDT CPEP CRAT CSRT DBG2 DBGP DMAR DRTM DSDT DTPR ECDT EINJ ERDT ERST FACP FACS FPDT GTDT HEST HMAT HPET IBFT IORT IOVT IVRS KEYP LPIT MCFG MCHI MISC MPAM MPST MRRM MSCT MSDM MTMR NBFT NFIT NHLT PCCT PDTT PHAT PMTT PPTT PRMT RAS2 RASF RGRT RHCT RIMT RSDP RSDT SBST SDEI SDEV SLIC SLIT SPCR SPMI SRAT SSDT STAO SVKL SWFT TCPA TDEL TPM2 UEFI VFCT VIOT VRTC WAET WDAT WDDT WDRT WPBT WSMT XENV XSDT" -- "${cur}"))
                     return 0
                     ;;
                 --format)
@@ -90,6 +94,10 @@ _acpi_dump() {
                     return 0
                     ;;
                 --ignore-rules)
+                    COMPREPLY=($(compgen -f "${cur}"))
+                    return 0
+                    ;;
+                --base)
                     COMPREPLY=($(compgen -f "${cur}"))
                     return 0
                     ;;
