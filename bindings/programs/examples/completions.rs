@@ -10,8 +10,8 @@ const SIGNATURES: &[&str] = &[
     "FPDT", "GTDT", "HEST", "HMAT", "HPET", "IBFT", "IORT", "IOVT", "IVRS", "KEYP", "LPIT", "MCFG", "MCHI", "MISC",
     "MPAM", "MPST", "MRRM", "MSCT", "MSDM", "MTMR", "NBFT", "NFIT", "NHLT", "PCCT", "PDTT", "PHAT", "PMTT", "PPTT",
     "PRMT", "RAS2", "RASF", "RGRT", "RHCT", "RIMT", "RSDP", "RSDT", "SBST", "SDEI", "SDEV", "SLIC", "SLIT", "SPCR",
-    "SPMI", "SRAT", "SSDT", "STAO", "SVKL", "SWFT", "TCPA", "TDEL", "TPM2", "UEFI", "VFCT", "VIOT", "VRTC", "WAET", "WDAT",
-    "WDDT", "WDRT", "WPBT", "WSMT", "XENV", "XSDT",
+    "SPMI", "SRAT", "SSDT", "STAO", "SVKL", "SWFT", "TCPA", "TDEL", "TPM2", "UEFI", "VFCT", "VIOT", "VRTC", "WAET",
+    "WDAT", "WDDT", "WDRT", "WPBT", "WSMT", "XENV", "XSDT",
 ];
 
 /// What the values of options are: words for some, and files and folders.

@@ -114,7 +114,8 @@ pub fn status(words: &[&str]) -> Option<u8> {
 
 /// Prints why words are no command.
 fn usage(option: &str, why: &str) -> u8 {
-    eprintln!("acpi_dump: --{option}: {why}\nusage: --fleet INPUT.. [--base INPUT] [--alike] [--ignore FIELD].. [--json]");
+    eprintln!("acpi_dump: --{option}: {why}");
+    eprintln!("usage: --fleet INPUT.. [--base INPUT] [--alike] [--ignore FIELD].. [--json]");
     2
 }
 

@@ -52,7 +52,10 @@ pub(super) fn print(
         (None, Some(first)) => name_of(fleet, &fleet.groups[*first]),
         (None, None) => "",
     };
-    let base = if name.is_empty() { Err("no machine can be read".to_string()) } else { read_machine(name, request.most) };
+    let base = match name {
+        "" => Err("no machine can be read".to_string()),
+        _ => read_machine(name, request.most),
+    };
     if let Err(why) = &base {
         eprintln!("acpi_dump: {}", plain(why));
     }
@@ -81,8 +84,8 @@ fn name_of<'f>(fleet: &'f Fleet, group: &Group) -> &'f str {
     &fleet.members[group.machines[0]].name
 }
 
-/// What differs between a group's first machine, which is read once more, so that it needn't be kept, and the base, after
-/// whose sums it comes.
+/// What differs between a group's first machine, which is read once more, so that it needn't be kept, and the base,
+/// after whose sums it comes.
 fn differences_of(
     fleet: &Fleet,
     group: &Group,
