@@ -11,8 +11,6 @@ use acpi_dump_walk::walk::{Field, Group, Show, ShowObjects};
 /// A value: a field of a table, which may be in structures, or an object that AML defines.
 #[derive(Clone, Copy)]
 pub(crate) struct Wanted<'w> {
-    /// The word.
-    pub(crate) word: &'w str,
     pub(crate) signature: Signature,
     /// The structures, the outermost first, each by its number or its name, with `.` between them.
     within: &'w str,
@@ -38,7 +36,6 @@ impl<'w> Wanted<'w> {
             return None;
         }
         Some(Wanted {
-            word,
             signature: parse_signature(letters)??,
             within,
             name,

@@ -83,7 +83,8 @@ const VIEWS: [(&str, View); 4] =
     [("summary", View::Summary), ("find", View::Candidates), ("compare", View::Differences), ("rules", View::Rules)];
 
 const ONE_VIEW: &str = "[--table SIG].. [--hex SIG].. | --get VALUE.. | --text [--table SIG].. | \
-     --extract DIR [--table SIG].. | [--check] --html FILE | --summary | --find | --compare [--html FILE] | --check | --rules";
+     --extract DIR [--table SIG].. | [--check] --html FILE | --summary | --find | \
+     --compare [--html FILE] | --check | --rules";
 
 /// The word of an option, or no letters, which are no value of any, if it isn't there.
 fn word_of<'w>(matches: &ArgMatches<'w>, option: &str) -> &'w str {
@@ -306,8 +307,8 @@ fn reading_of(matches: &ArgMatches<'_>, log: &mut Log) -> Result<Reading, Stop> 
 
 /// The request that matches make.
 ///
-/// Fails if memory runs out, or, after printing that, with the first mistake in this order: the words of options, the
-/// choices, the views, and the way to the root table.
+/// Fails if memory runs out, or, after printing that, with the first mistake in this order: the words of options but
+/// those of `--get`, the choices, the views with the words of `--get`, and the way to the root table.
 pub(crate) fn request_of<'m>(alloc: Global, matches: &'m ArgMatches<'_>, log: &mut Log) -> Result<Request<'m>, Stop> {
     let least = match word_of(matches, "check") {
         "" => None,

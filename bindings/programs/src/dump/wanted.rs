@@ -13,8 +13,6 @@ use zacpi::sdt::Signature;
 /// A value: a field of a table, which may be in structures, or an object that AML defines.
 #[derive(Clone, Copy)]
 pub(crate) struct Wanted<'w> {
-    /// The word.
-    pub(crate) word: &'w str,
     pub(crate) signature: Signature,
     /// The structures, the outermost first, each by its number or its name, with `.` between them.
     within: &'w str,
@@ -39,7 +37,7 @@ impl<'w> Wanted<'w> {
         if name.is_empty() {
             return None;
         }
-        Some(Wanted { word, signature: parse_signature(letters)??, within, name, is_object })
+        Some(Wanted { signature: parse_signature(letters)??, within, name, is_object })
     }
 
     /// The number or the name of the structure that is in this many others.

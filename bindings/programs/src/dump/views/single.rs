@@ -79,32 +79,36 @@ fn show_value<S: ShowObjects>(alloc: Global, entries: &[Entry<'_>], wanted: Want
     false
 }
 
-/// Prints the values of these words, one a line, or of each in a document the word and the field or the object.
-fn print_words(
-    output: Output<'_>,
-    words: &[&str],
-    entries: &[Entry<'_>],
-    document: &mut Document<'_>,
-    out: &mut Out,
-    log: &mut Log,
-) {
-    let alloc = output.alloc;
+/// Tells that no table has a value.
+fn tell_missing(output: Output<'_>, word: &str, log: &mut Log) {
+    fail(log, output.name(), &format_args!("no value {}", word));
+}
+
+/// Prints the values of these words, each on a line.
+fn print_lines(output: Output<'_>, words: &[&str], entries: &[Entry<'_>], out: &mut Out, log: &mut Log) {
+    for word in words {
+        let Some(wanted) = Wanted::read(*word) else {
+            continue;
+        };
+        if !show_value(output.alloc, entries, wanted, &mut Raw { out: &mut *out }) {
+            tell_missing(output, *word, log);
+        }
+    }
+}
+
+/// Adds the values of these words to a document, each with its word.
+fn add_values(output: Output<'_>, words: &[&str], entries: &[Entry<'_>], document: &mut Document<'_>, log: &mut Log) {
     for word in words {
         let Some(wanted) = Wanted::read(*word) else {
             continue;
         };
         document.token(Token::BeginObject);
         document.token(Token::Key("found"));
-        let is_found = if output.request.is_json {
-            show_value(alloc, entries, wanted, &mut *document)
-        } else {
-            show_value(alloc, entries, wanted, &mut Raw { out: &mut *out })
-        };
-        if !is_found {
+        if !show_value(output.alloc, entries, wanted, &mut *document) {
             document.token(Token::Null);
-            fail(log, output.name(), &format_args!("no value {}", wanted.word));
+            tell_missing(output, *word, log);
         }
-        document.text("get", wanted.word);
+        document.text("get", *word);
         document.token(Token::EndObject);
     }
 }
@@ -116,10 +120,13 @@ pub(super) fn print_values(
     out: &mut Out,
     log: &mut Log,
 ) -> Result<u8, Stop> {
-    let mut document = output.document("values");
-    print_words(output, output.request.wanted, entries, &mut document, out, log);
+    let words = output.request.wanted;
     if output.request.is_json {
+        let mut document = output.document("values");
+        add_values(output, words, entries, &mut document, log);
         document.print("get", out)?;
+    } else {
+        print_lines(output, words, entries, out, log);
     }
     Ok(super::strict_status(output, entries))
 }

@@ -115,8 +115,8 @@ impl<'a> Value<'a> {
     }
 }
 
-/// Prints what a name of a path is set to, as a script takes it: a text, an id and a UUID without what it is called, and
-/// all bytes of another buffer.
+/// Prints what a name of a path is set to, as a script takes it: a text, an id and a UUID without what it is called,
+/// and all bytes of another buffer.
 fn print_plain(path: &[u8], data: &[u8], out: &mut Out) {
     if let Some(text) = text_in(data) {
         return out.escaped(text);
