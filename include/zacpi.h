@@ -22,28 +22,27 @@
  * length beside it is, and isn't null, but for a list of no items and for `signature`; lists inside
  * the items of a list (a region's bytes) aren't null either. An input is initialised. An output
  * shares no byte with an input or another output. While a call runs nobody may write what it reads,
- * nor touch what it writes. The stack is aligned as the ABI has it. The library uses the red zone
- * and vector registers if its compiler's flags let it (C.md); vector registers are to be enabled
+ * nor touch what it writes. The stack is aligned as the ABI requires. The library uses the red zone
+ * and vector registers if its compiler's flags let it (C.md); vector registers have to be enabled
  * first (on x86-64 CR0.EM clear, CR4.OSFXSR set).
  *
  * A call can be passed any numbers, over any bytes. It keeps no state, takes no memory, and calls
- * nothing but memcpy, memset and memmove: any number may run at once, each with outputs of its own.
- * It returns ZACPI_OK, with all its outputs written, or fails with the first error of its comment,
+ * only memcpy, memset and memmove: any number may run at once, each with outputs of its own. It
+ * returns ZACPI_OK, with all its outputs written, or fails with the first error of its comment,
  * with none written; only a ZACPI_SDT_ error, ZACPI_TABLE_MISSING and ZACPI_AML_INVALID write
- * `signature`. Opening errors are zacpi_open's. A call about a table goes by the first valid one
- * that is listed.
+ * `signature`. Opening errors are zacpi_open's. A call about a table uses the first valid one that
+ * is listed.
  *
- * A list has its items in the table's order. It writes the first `capacity` of them to `out`, and
- * how many there are in all to `count`: with a capacity of 0 it only counts. Lists that grow with
- * the processors have a call `.._from` too, so that a few places serve any number of items; its
- * `count` is of all items, whatever `from` is.
+ * A list returns its items in the table's order. It writes the first `capacity` of them to `out`,
+ * and how many there are in all to `count`: with a capacity of 0 it only counts. Lists that grow
+ * with the processors come with a call `.._from`, so that a few places serve any number of items;
+ * its `count` is of all items, whatever `from` is.
  *
  * Sections are of the ACPI Specification 6.4 unless another document is named, and names of fields
  * (Length, SCI_INT) are from the document that lays the table out. A field without a comment is
- * what its name means. One for whether something holds is 0 or 1. Addresses are physical, and
- * lengths in bytes; memory ends at the address after its last byte. Bytes past the end of a table
- * or entry are read as 0, and a field in every Revision of its table. Fields that differ have a
- * comment. */
+ * what its name means; a yes-or-no field is 0 or 1. Addresses are physical, and lengths in bytes;
+ * memory ends at the address after its last byte. Bytes past the end of a table or entry are read
+ * as 0, and a field in every Revision of its table. Comments name the fields that differ. */
 #ifndef ZACPI_H
 #define ZACPI_H
 #include <stddef.h>
@@ -53,7 +52,7 @@
 #define ZACPI_VERSION_NUMBER 0x010000 /* to compare: one byte for each part of the version */
 #define ZACPI_ABI 1 /* part of the library's symbols: with another library nothing links */
 
-/* Records are laid out as the library has them, also in a unit where another packing is open. */
+/* Records are laid out as in the library, also in a unit where another packing is in force. */
 #pragma pack(push, 8)
 
 /* A kernel's own stdint.h may lack UINTPTR_MAX. */
@@ -63,7 +62,7 @@
 #define ZACPI_IS_64_BIT (UINTPTR_MAX > 0xffffffff)
 #endif
 /* With pointers of 32 bits a record is laid out as with 64 bits: a pointer is in the first half of its 8 bytes,
- * and what counts or measures has 64 bits. */
+ * and counts and lengths have 64 bits. */
 #if ZACPI_IS_64_BIT
 typedef uint64_t zacpi_u64;
 typedef size_t zacpi_size;
@@ -98,8 +97,8 @@ extern "C" {
 #endif
 #endif
 
-/* What is compiled without vector registers refers in each call to a byte that the library has only
- * if it is compiled without them too: with another it doesn't link. */
+/* A unit that is compiled without vector registers refers in each call to a byte that the library
+ * defines only if it is compiled without them too: with another library it doesn't link. */
 #if (defined(__x86_64__) && !defined(__SSE2__)) || \
     (defined(__aarch64__) && !defined(__ARM_NEON)) || (defined(__riscv) && !defined(__riscv_flen))
 #if !defined(_WIN32)
@@ -121,13 +120,13 @@ enum zacpi_status_code {
 
     /* What is passed. */
     ZACPI_REGIONS_NOT_ASCENDING = 1, /* a region begins below the end of the one before it */
-    ZACPI_REGION_TOO_HIGH = 2,       /* a region ends at 2^64 or above. Of both errors a call returns
-                                      * that of the first region with one */
+    ZACPI_REGION_TOO_HIGH = 2,       /* a region ends at 2^64 or above. Of these two errors a call
+                                      * returns the one of the first region that is wrong */
     ZACPI_UNKNOWN_START = 3,         /* `start` isn't one of enum zacpi_start */
     ZACPI_RANGE_TOO_HIGH = 4,        /* a range ends at 2^64 or above */
     ZACPI_UNKNOWN_WIDTH = 5,         /* a width of a walk isn't 1, 2 or 4 */
     ZACPI_NO_SUCH_STATE = 6,         /* a sleep state above 5 */
-    ZACPI_UNKNOWN_POLICY = 7,        /* `accept` has a bit that enum zacpi_accept hasn't */
+    ZACPI_UNKNOWN_POLICY = 7,        /* a bit of `accept` isn't in enum zacpi_accept */
 
     /* Memory and the RSDP (section 5.2.5). */
     ZACPI_MAP_FAILED = 10,               /* bytes are needed that no one region contains */
@@ -155,18 +154,18 @@ enum zacpi_status_code {
     ZACPI_SLEEP_STATE_ABSENT = 35,      /* no table defines the state's name */
     ZACPI_SLEEP_STATE_NOT_SEEN = 36,    /* a table may define it, if its AML is run, or defines it,
                                          * but not as a package that begins with two integer
-                                         * constants, or has one alone */
-    ZACPI_AML_INVALID = 37,             /* the table whose signature is written has bytes that no
-                                         * AML is (section 20.2) */
+                                         * constants, or contains only one */
+    ZACPI_AML_INVALID = 37,             /* the table whose signature is written contains bytes that
+                                         * aren't AML (section 20.2) */
     ZACPI_SLEEP_TYPE_TOO_HIGH = 38,     /* above 7, where SLP_TYP has three bits and the type is
                                          * written; above 255, where it is returned */
 
     /* The MADT (section 5.2.12). An entry begins, from byte 44 on, where its Length is at most the
      * bytes left and at least 8, 12, 10, 8, 6, 12, 16, 16, 16, 16, 12, 76, 24, 24, 16, 20 and 16
      * for Types 0 to 0x10, and 2 for others, which are skipped. */
-    ZACPI_NO_APICS = 40,              /* the MADT has no entry of Types 0 to 5, 9 and 0xa; for
+    ZACPI_NO_APICS = 40,              /* the MADT lists no entry of Types 0 to 5, 9 and 0xa; for
                                        * zacpi_get_platform also: there is no MADT */
-    ZACPI_NO_GIC = 41,                /* the MADT has no entry of Types 0xb to 0xf, or no GICD */
+    ZACPI_NO_GIC = 41,                /* the MADT lists no entry of Types 0xb to 0xf, or no GICD */
     ZACPI_NO_SUCH_INTERRUPT = 42,     /* the ISA interrupt comes to no I/O APIC */
     ZACPI_NO_SUCH_IO_APIC = 43,       /* no I/O APIC has this global system interrupt */
     ZACPI_MADT_UNEXPECTED_ENTRY = 44, /* Type is 6 to 8, of SAPICs, or 0xb to 0xf, of a GIC */
@@ -184,13 +183,13 @@ enum zacpi_status_code {
     ZACPI_NUMA_INVALID_ENTRY_LENGTH = 50,  /* bytes are left in which no entry begins */
     ZACPI_NUMA_INVALID_MEMORY_RANGE = 51,  /* memory ends at 2^64 or above */
     ZACPI_NO_DOMAIN = 52,                  /* the SRAT puts it in no domain */
-    ZACPI_NO_DISTANCE = 53,                /* the SLIT has no distance of these localities */
+    ZACPI_NO_DISTANCE = 53,                /* the SLIT lists no distance of these localities */
     ZACPI_IOMMU_INVALID_STRUCTURE_LENGTH = 54, /* bytes are left in which no structure or block
                                                 * begins, or in one of these no device scope or
                                                 * device entry */
     ZACPI_IOMMU_INVALID_MEMORY_RANGE = 55, /* an RMRR's last byte is before its first, or an IVMD's
                                             * memory ends at 2^64 or above */
-    ZACPI_NO_IOMMU = 56,                   /* the table has no such unit or structure, or no unit
+    ZACPI_NO_IOMMU = 56,                   /* the table lists no such unit or structure, or no unit
                                             * for the device */
     /* The GTDT (section 5.2.24.1): Platform Timer Offset is below 96, a Length is above the bytes
      * left or below 20 (GT Block), 28 (watchdog) or 4 (others), or frames of a GT Block aren't
@@ -198,7 +197,7 @@ enum zacpi_status_code {
     ZACPI_INVALID_TIMER_LENGTH = 57,
     /* A RISC-V machine's MADT (ACPI 6.6, section 5.2.12), whose entries of Types 0x18 to 0x1b have
      * at least 20, 16, 36 and 36 bytes. */
-    ZACPI_NO_RISCV = 58,          /* the MADT has no such entry */
+    ZACPI_NO_RISCV = 58,          /* the MADT lists no such entry */
     ZACPI_SHORT_RISCV_ENTRY = 59, /* an entry of one of these Types has fewer bytes: it is
                                    * skipped */
 
@@ -216,8 +215,8 @@ enum zacpi_status_code {
     ZACPI_BAD_NAME = 66,        /* OEMID, OEM Table ID or Creator ID isn't UTF-8 */
     ZACPI_NO_ROOM = 67,         /* `capacity` is less than the length */
     ZACPI_TOO_LONG = 68,        /* the table has 2^32 bytes or more */
-    ZACPI_BAD_REGISTER = 69,    /* a FADT's register is at address 0, or a block but pm_timer has no
-                                 * byte */
+    ZACPI_BAD_REGISTER = 69,    /* a FADT's register is at address 0, or a block other than pm_timer
+                                 * has no byte */
     ZACPI_BAD_RANGE = 70,       /* memory has no byte, or ends at 2^64 or above; redistributors have
                                  * 2^32 bytes or more */
     ZACPI_SAME_AS_BUS = 71,     /* an Arm machine's trigger mode or polarity is 0 */
@@ -228,7 +227,7 @@ enum zacpi_status_code {
 };
 
 /* Returns the name of a status, as acpi_view prints it ("MapFailed"), or "Unknown". Each unit that
- * calls it has all names: one is enough. */
+ * calls it contains all names: call it in only one. */
 static inline const char *zacpi_status_name(zacpi_status status) {
     /* One text: a table of pointers would have to be relocated first. */
     static const char names[] =
@@ -296,8 +295,8 @@ struct zacpi_source {
     zacpi_size regions_length;
     zacpi_u64 address; /* where to start; a search doesn't look at it */
     uint32_t start;   /* one of enum zacpi_start */
-    uint32_t accept;  /* 0, or bits of enum zacpi_accept: a root table, a listed table or a DSDT is
-                       * valid if it has no other error. An RSDP may have none */
+    uint32_t accept;  /* 0, or bits of enum zacpi_accept: a root table, a listed table or a DSDT
+                       * with no other error is valid. In an RSDP no error is accepted */
 };
 
 /* Lists the ranges to make regions of, from ranges in any order: sorted, joined where they overlap
@@ -325,7 +324,7 @@ ZACPI_STATUS zacpi_locate(const struct zacpi_region *regions, size_t regions_len
 /* Tables --------------------------------------------------------------------------------------- */
 
 struct zacpi_signature {
-    uint8_t letters[4]; /* as "APIC", without a zero after it */
+    uint8_t letters[4]; /* such as "APIC", without a zero after it */
 };
 static inline struct zacpi_signature zacpi_signature_of(const char *letters) {
     struct zacpi_signature made;
@@ -333,7 +332,7 @@ static inline struct zacpi_signature zacpi_signature_of(const char *letters) {
     for (i = 0; i < 4; i++) made.letters[i] = (uint8_t)letters[i];
     return made;
 }
-/* Of four letters, as ZACPI_SIGNATURE("TPM2"): of more or fewer it doesn't compile. */
+/* Takes four letters, as in ZACPI_SIGNATURE("TPM2"): with more or fewer it doesn't compile. */
 #define ZACPI_SIGNATURE(letters) \
     zacpi_signature_of(&("" letters)[0 * sizeof(char[sizeof("" letters) == 5 ? 1 : -1])])
 struct zacpi_root {
@@ -362,19 +361,20 @@ struct zacpi_table {
 };
 struct zacpi_member { /* what a pointer of a root table points to */
     struct zacpi_table table; /* zeros but for the address unless has_header */
-    zacpi_status status;      /* 0, or if zacpi_list_tables skips it its first error of zacpi_open's
-                               * order that `accept` doesn't take */
+    zacpi_status status;      /* 0, or, if zacpi_list_tables skips it, its first error in
+                               * zacpi_open's order that `accept` doesn't take */
     uint8_t has_header;       /* 0: the 36 bytes of a header aren't mapped there */
 };
 struct zacpi_fault {
     zacpi_u64 address;
-    zacpi_status status; /* why it isn't valid: ZACPI_MAP_FAILED or a ZACPI_SDT_ error, but for
-                          * ZACPI_SDT_INVALID_SIGNATURE. Of several the first of zacpi_open's order
-                          * that `accept` doesn't take, or if it takes all, the first */
-    uint8_t accepted;    /* 1: it isn't skipped, by `accept` of the source */
+    zacpi_status status; /* why it isn't valid: ZACPI_MAP_FAILED or a ZACPI_SDT_ error other than
+                          * ZACPI_SDT_INVALID_SIGNATURE. Of several, the first in zacpi_open's order
+                          * that `accept` doesn't take, or, if it takes all, the first */
+    uint8_t accepted;    /* 1: it isn't skipped, thanks to `accept` of the source */
 };
-/* How the entries of a table are laid out. zacpi_tables.h has the walk of each table that is so, as
- * ZACPI_WALK_APIC; ZACPI_WALK_IORT(first) and others are passed what a field of the table has. */
+/* How the entries of a table are laid out. zacpi_tables.h defines the walk of each table with such
+ * entries, as ZACPI_WALK_APIC; ZACPI_WALK_IORT(first) and others take the value of one of its
+ * fields. */
 struct zacpi_walk {
     uint32_t first;                   /* the first entry's offset in the table */
     uint8_t type_offset, type_width;  /* of Type in an entry; a width is 1, 2 or 4 */
@@ -383,7 +383,7 @@ struct zacpi_walk {
 struct zacpi_entry {
     zacpi_u64 address;
     uint32_t entry_type;
-    uint32_t length; /* with Type and Length */
+    uint32_t length; /* including Type and Length */
 };
 struct zacpi_aml_table {
     zacpi_u64 address; /* of the byte after the table's header */
@@ -576,7 +576,7 @@ struct zacpi_boot_graphic {
     uint32_t x, y;        /* Image Offset X and Y: of its upper left corner, in pixels */
     uint16_t orientation; /* Orientation Offset, bits 1 and 2 of Status: in degrees, clockwise, 0,
                            * 90, 180 or 270 */
-    uint8_t displayed;    /* bit 0 of Status: it is on the screen still */
+    uint8_t displayed;    /* bit 0 of Status: it is still on the screen */
     uint8_t image_type;   /* 0: a bitmap. 1: another code, which is reserved */
 };
 
@@ -589,12 +589,12 @@ struct zacpi_gpe_block { /* general purpose events (sections 4.8.4.1 and 5.2.9),
     uint8_t present;     /* 0: none, also if GPEn_BLK_LEN is 0. 1: there is one. 2: its Address
                           * Space ID is reserved; Access Size isn't looked at */
 };
-/* FADT, section 5.2.9. Where a field has an X_ field (X_DSDT), that counts unless it is 0, or the
- * Address in it; it is read as 0 below revision 2, and if the table hasn't all its bytes. Else a
- * block is I/O ports, of eight bits for each byte of its length (PM1_EVT_LEN to GPE1_BLK_LEN),
- * which may be 0; from 32 bytes on it is an error, but for gpe0_block and gpe1_block. Below
- * `revision` 3 x86_boot_flags, power_profile, pstate_control and c_state_control are reserved, and
- * are here what their bytes are: ACPICA takes them as 0 there. */
+/* FADT, section 5.2.9. A field's X_ field (X_DSDT), where there is one, counts unless it is 0, or
+ * the Address in it; it is read as 0 below revision 2, and if the table lacks one of its bytes.
+ * Otherwise a block is I/O ports, of eight bits for each byte of its length (PM1_EVT_LEN to
+ * GPE1_BLK_LEN), which may be 0; from 32 bytes on it is an error, except for gpe0_block and
+ * gpe1_block. Below `revision` 3 x86_boot_flags, power_profile, pstate_control and c_state_control
+ * are reserved, and here are what their bytes are: ACPICA takes them as 0 there. */
 struct zacpi_fixed_hardware {
     zacpi_u64 facs_address;                  /* FIRMWARE_CTRL. 0: none */
     zacpi_u64 dsdt_address;                  /* DSDT. 0: none */
@@ -667,10 +667,10 @@ struct zacpi_console { /* SPCR, whose layout and names of fields are Microsoft's
     struct zacpi_register base;            /* Base Address. None if all its twelve bytes are 0 */
     uint32_t baud_rate;                    /* Precise Baud Rate, or if that is 0 what Configured
                                             * Baud Rate means: 3 9600, 4 19200, 6 57600, 7
-                                            * 115200; 0 unless it is there. In bits in a second */
+                                            * 115200; 0 unless it is there. In bits per second */
     uint32_t global_system_interrupt;      /* 0 unless it is there */
-    uint32_t clock_frequency;              /* UART Clock Frequency, in Hz. 0: unspecified,
-                                            * or is below revision 3 */
+    uint32_t clock_frequency;              /* UART Clock Frequency, in Hz. 0: unspecified, or
+                                            * the table is below revision 3 */
     uint32_t pci_flags;                    /* bit 0: neither switch the device off nor look for its
                                             * like */
     uint16_t pci_device_id, pci_vendor_id; /* 0xffff: no PCI device */
@@ -757,18 +757,18 @@ struct zacpi_sleep_types {
 };
 
 /* Where sleep types are (section 7.4.2), as AML isn't run: in the package of the first Name of the
- * state, _S0_ to _S5_, at the root or in Scope (\) there. They are its first two elements, or the
- * low byte of an only one and what is above it, and have to be integer constants; elements after
- * the second don't matter.
+ * state, _S0_ to _S5_, at the root or in Scope (\) there. They are its first two elements, or, if
+ * it has only one, the low byte of that and what is above it; they have to be integer constants.
+ * Elements after the second don't matter.
  *
  * On the way to it these are skipped by their length: If, Else, While, Method, Device, Processor,
  * PowerResource, ThermalZone, other Scopes and fields. So are Name, Alias, External, Mutex, Event,
  * Noop, regions, and CreateField and its like, if their arguments are integer constants, texts,
  * buffers, packages, names, locals, or Add, Subtract, ShiftLeft, ShiftRight, And and Or of these.
  * Another statement or expression, such as Store, Revision or a call, hides what follows it, up to
- * the end of its Scope (\) or of the table. What is no AML is ZACPI_AML_INVALID, as an integer
- * constant by itself is; but right after a region, a CreateField or its like, or a Name whose value
- * is a name or an operator, it may belong to a call there, and hides what follows.
+ * the end of its Scope (\) or of the table. Bytes that aren't AML are ZACPI_AML_INVALID, and so is
+ * an integer constant by itself; but right after a region, a CreateField or its like, or a Name
+ * whose value is a name or an operator, it may belong to a call there, and hides what follows.
  *
  * ZACPI_SLEEP_STATE_NOT_SEEN is for a name that may be defined by what is hidden; by an If, Else or
  * While; by a Method or Alias of it; or by another object with its four letters in its bytes, but
@@ -890,13 +890,13 @@ enum zacpi_processor_state {
 struct zacpi_interrupt_model {
     zacpi_u64 local_apic_address; /* of the last override of it (section 5.2.12.8), or else Local
                                   * Interrupt Controller Address */
-    /* how many each list below has */
+    /* how many items each list below has */
     zacpi_size io_apics, overrides, nmi_sources, nmi_lines, processors;
-    uint8_t known;         /* 1 if a MADT has an entry of Types 0 to 5, 9 or 0xa; else all is 0 */
+    uint8_t known;         /* 1 if a MADT lists an entry of Types 0 to 5, 9 or 0xa; else all is 0 */
     uint8_t also_has_8259; /* PCAT_COMPAT, bit 0 of Flags: there is a pair of 8259s to be masked */
 };
 struct zacpi_local_apic {
-    zacpi_u64 address;     /* as for struct zacpi_interrupt_model, of the entries up to where none
+    zacpi_u64 address;     /* as in struct zacpi_interrupt_model, by the entries up to where none
                             * begins */
     uint8_t also_has_8259; /* PCAT_COMPAT, bit 0 of Flags */
 };
@@ -947,7 +947,7 @@ ZACPI_STATUS zacpi_get_interrupt_model(const struct zacpi_source *source,
 ZACPI_STATUS zacpi_get_local_apic(const struct zacpi_source *source, struct zacpi_local_apic *out,
                                   struct zacpi_signature *signature);
 
-/* The five lists below have their entries as they are, up to where none begins. */
+/* The five lists below return their entries as they are, up to where none begins. */
 
 /* Lists the I/O APICs. Fails with an opening error, ZACPI_TABLE_MISSING "APIC", or
  * ZACPI_NO_APICS. */
@@ -1000,8 +1000,8 @@ ZACPI_STATUS zacpi_list_madt_faults(const struct zacpi_source *source,
                                     struct zacpi_entry_fault *out, size_t capacity, size_t *count,
                                     struct zacpi_signature *signature);
 
-/* The lists of zacpi_get_platform: of each, where it goes and how many items fit there, which the
- * caller passes, and how many there are in all, which the call writes. */
+/* The lists of zacpi_get_platform. For each, the caller passes where it goes and how many items fit
+ * there, and the call writes how many there are in all. */
 struct zacpi_platform_lists {
     struct zacpi_processor *processors;
     zacpi_size processors_capacity, processors_count;
@@ -1084,10 +1084,10 @@ struct zacpi_gic_distributor { /* GIC Distributor (GICD), section 5.2.12.15 */
     zacpi_u64 address;
     uint32_t id;
     uint32_t system_vector_base; /* reserved, and kept as it is */
-    uint8_t version;             /* 1 to 4; 0: the hardware has it */
+    uint8_t version;             /* 1 to 4; 0: the hardware shows it */
 };
 struct zacpi_gic_cpu_interface { /* GIC CPU Interface (GICC), section 5.2.12.14. An address or
-                                  * interrupt of 0 is none. Flags: bit 0 is_enabled, 1
+                                  * interrupt of 0: none. Flags: bit 0 is_enabled, 1
                                   * performance_trigger, 2 maintenance_trigger, 3 (since ACPI 6.5)
                                   * is_online_capable, 0 below revision 6 */
     zacpi_u64 mpidr;
@@ -1099,9 +1099,9 @@ struct zacpi_gic_cpu_interface { /* GIC CPU Interface (GICC), section 5.2.12.14.
     uint32_t parking_protocol_version; /* 0: none; PSCI wakes processors */
     uint16_t spe_overflow_interrupt;
     uint16_t trace_buffer_interrupt;   /* TRBE Interrupt, since ACPI 6.5: 0 below revision 6, and if
-                                        * the entry hasn't both bytes */
+                                        * the entry lacks one of its bytes */
     uint8_t is_enabled, is_online_capable, performance_trigger, maintenance_trigger;
-    uint8_t efficiency_class;          /* Processor Power Efficiency Class: less is less power */
+    uint8_t efficiency_class;          /* Processor Power Efficiency Class: lower uses less power */
 };
 struct zacpi_gic_translation_service { /* GIC Interrupt Translation Service (ITS), section
                                         * 5.2.12.18 */
@@ -1113,7 +1113,7 @@ struct zacpi_gic_msi_frame { /* GIC MSI Frame, section 5.2.12.16 */
     uint32_t id;
     uint16_t spi_base, spi_count; /* zeros if has_spis is 0 */
     uint8_t has_spis;             /* SPI Count/Base Select, bit 0 of Flags. 0: the frame's registers
-                                   * have them */
+                                   * show them */
 };
 
 /* Returns the distributor of the first GICD. Fails with an opening error, ZACPI_TABLE_MISSING
@@ -1157,15 +1157,15 @@ ZACPI_STATUS zacpi_list_gic_msi_frames(const struct zacpi_source *source,
 struct zacpi_arm_timer { /* its flags: bit 0 trigger, 1 polarity, 2 always_on */
     uint32_t interrupt; /* GSIV: of the GIC; 0: none */
     uint8_t polarity, trigger, always_on;
-    uint8_t present;    /* 0: the table hasn't this timer's fields, and all else is 0 */
+    uint8_t present;    /* 0: the table lacks this timer's fields, and all else is 0 */
 };
 struct zacpi_arm_timers {
     zacpi_u64 control_base; /* CntControlBase Physical Address; all ones: none */
     zacpi_u64 read_base;   /* CntReadBase Physical Address; all ones: none, also below revision 2 */
-    /* virtual_el2 is present from revision 3 on, if the table has all its eight bytes, and Platform
-     * Timer Count is 0 or Platform Timer Offset at least 104. */
+    /* virtual_el2 is present from revision 3 on, if the table contains all its eight bytes, and
+     * Platform Timer Count is 0 or Platform Timer Offset at least 104. */
     struct zacpi_arm_timer secure_el1, non_secure_el1, virtual_el1, el2, virtual_el2;
-    /* 1: zacpi_list_gtdt_faults has an item. */
+    /* 1: zacpi_list_gtdt_faults returns an item. */
     uint8_t platform_timers_malformed;
 };
 struct zacpi_gt_frame { /* a frame of a GT Block, section 5.2.24.1.1. GTx Common Flags: bit 0
@@ -1212,8 +1212,8 @@ ZACPI_STATUS zacpi_list_gtdt_faults(const struct zacpi_source *source,
 
 /* RISC-V: harts and interrupt controllers (MADT, ACPI 6.6, section 5.2.12) --------------------- */
 
-struct zacpi_rintc { /* RISC-V Interrupt Controller, Type 0x18: a hart. An entry of 20 bytes has
-                      * neither controller id nor IMSIC: zeros */
+struct zacpi_rintc { /* RISC-V Interrupt Controller, Type 0x18: a hart. An entry of 20 bytes lacks
+                      * controller id and IMSIC: zeros */
     zacpi_u64 hart_id;
     zacpi_u64 imsic_address; /* IMSIC Base Address. 0: none */
     uint32_t flags;         /* bit 0 Enabled, 1 Online Capable */
@@ -1283,8 +1283,8 @@ struct zacpi_generic_initiator { /* Generic Initiator Affinity, section 5.2.16.6
                                   * accesses memory by itself */
     uint32_t domain;
     uint8_t is_architectural; /* Architectural Transactions, bit 1 of Flags */
-    uint8_t handle_type; /* Device Handle Type: what `handle` has. 0: _HID in 8 bytes, _UID in 4. 1:
-                          * PCI Segment in 2 bytes, PCI BDF Number in 2 */
+    uint8_t handle_type; /* Device Handle Type: what `handle` contains. 0: _HID in 8 bytes, _UID in
+                          * 4. 1: PCI Segment in 2 bytes, PCI BDF Number in 2 */
     uint8_t handle[16];  /* Device Handle */
 };
 struct zacpi_its_affinity { /* GIC Interrupt Translation Service (ITS) Affinity, section 5.2.16.5 */
@@ -1293,8 +1293,8 @@ struct zacpi_its_affinity { /* GIC Interrupt Translation Service (ITS) Affinity,
 };
 struct zacpi_localities {
     zacpi_u64 localities; /* Number of System Localities: rows of the matrix, from 0 on */
-    uint8_t is_sane;     /* 1: there are localities, the table has all distances, 10 of each
-                          * locality from itself, and more than 10 of others */
+    uint8_t is_sane;     /* 1: there are localities, the table lists all distances, each locality
+                          * is at 10 from itself, and at more than 10 from others */
 };
 
 /* Lists the memory that the SRAT puts into domains: its Memory Affinity entries that are enabled,
@@ -1373,7 +1373,7 @@ enum zacpi_dmar_flag { /* Flags of the DMAR, section 8.1 */
     ZACPI_DMAR_DMA_CTRL_PLATFORM_OPT_IN_FLAG = 0x4
 };
 struct zacpi_dmar_flags {
-    uint16_t address_bits; /* Host Address Width and 1 */
+    uint16_t address_bits; /* Host Address Width plus 1 */
     uint8_t flags;         /* of enum zacpi_dmar_flag */
 };
 struct zacpi_hop { /* a step of Path, from a bus to a device on it */
@@ -1387,7 +1387,7 @@ struct zacpi_dmar_unit { /* DMA Remapping Hardware Unit Definition (DRHD), secti
     uint8_t flags, size;
 };
 struct zacpi_dmar_scope {
-    zacpi_size path_length; /* how many hops Path has; `path` has the first 16, and zeros after them */
+    zacpi_size path_length; /* how many hops Path has; `path` lists the first 16, then zeros */
     uint8_t scope_type, flags, enumeration_id;
     uint8_t bus;        /* Start Bus Number */
     struct zacpi_hop path[16];
@@ -1512,7 +1512,7 @@ struct zacpi_ivrs_unit { /* I/O Virtualization Hardware Definition (IVHD) */
     uint8_t flags;                 /* of enum zacpi_ivhd_flag */
     uint8_t has_extended_features; /* 0 for Type 0x10 */
 };
-enum zacpi_ivhd_flag { /* Flags of an IVHD; the last two are of Type 0x10 alone */
+enum zacpi_ivhd_flag { /* Flags of an IVHD; the last two are only of Type 0x10 */
     ZACPI_IVHD_HT_TUN_EN = 0x1, ZACPI_IVHD_PASS_PW = 0x2, ZACPI_IVHD_RES_PASS_PW = 0x4,
     ZACPI_IVHD_ISOC = 0x8, ZACPI_IVHD_IOTLB_SUP = 0x10, ZACPI_IVHD_COHERENT = 0x20,
     ZACPI_IVHD_PREF_SUP = 0x40, ZACPI_IVHD_PPR_SUP = 0x80
@@ -1535,10 +1535,10 @@ struct zacpi_ivrs_memory { /* I/O Virtualization Memory Definition (IVMD) */
     uint8_t flags;      /* of enum zacpi_ivmd_flag */
 };
 
-struct zacpi_ivrs_entry { /* a device entry; a field that its Type lacks is 0. Padding, Types 0 and
-                           * 0x40, has entry_type alone; other reserved Types have bytes 1 and 2 in
-                           * `first` and `last`, and byte 3 in `settings` */
-    zacpi_size unique_id_length; /* `unique_id` has the first 32 bytes of Unique ID, and zeros */
+struct zacpi_ivrs_entry { /* a device entry; a field that its Type lacks is 0. Of padding, Types 0
+                           * and 0x40, only entry_type is set; of other reserved Types bytes 1 and 2
+                           * are in `first` and `last`, and byte 3 in `settings` */
+    zacpi_size unique_id_length; /* `unique_id` is the first 32 bytes of Unique ID, then zeros */
     uint32_t extended_settings;
     uint16_t first, last;    /* DeviceID; of a range, its start and end. 0 and 0xffff for all
                               * devices, Type 1 */

@@ -9,7 +9,7 @@
 
 /* Each call writes one table to the front of `out`, which has `capacity` bytes, and its length to
  * `length`; the rest of `out` is left as it is. The calls of zacpi.h then read what was passed,
- * unless a comment has otherwise; none reads an RHCT. */
+ * except as comments explain; none reads an RHCT. */
 
 struct zacpi_table_ids { /* section 5.2.6. Names are filled up with spaces or zeros */
     uint8_t oem_id[6], oem_table_id[8];
@@ -58,7 +58,7 @@ struct zacpi_riscv_contents {
     zacpi_size plics_length;
 };
 struct zacpi_rhct_contents { /* RISC-V Hart Capabilities Table, ACPI 6.6 */
-    const uint8_t *isa;     /* the ISA string of all harts, as rv64imafdc, with no zero at its end */
+    const uint8_t *isa;     /* the ISA string of all harts, as rv64imafdc, without a final zero */
     zacpi_size isa_length;
     const uint32_t *harts;  /* ACPI Processor UID of each */
     zacpi_size harts_length;
@@ -250,7 +250,7 @@ ZACPI_STATUS zacpi_write_facs(const struct zacpi_facs_contents *contents, uint8_
 /* A whole machine that is written -------------------------------------------------------------- */
 
 struct zacpi_aml_contents {
-    const uint8_t *aml; /* of what iasl compiles, which has a header, + 36 */
+    const uint8_t *aml; /* of what iasl compiles, which begins with a header, from + 36 on */
     zacpi_size aml_length;
     uint8_t revision;
 };

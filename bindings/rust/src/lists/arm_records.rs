@@ -12,7 +12,7 @@ pub struct GicDistributor {
     pub id: u32,
     /// System vector base: reserved, and kept as it is.
     pub system_vector_base: u32,
-    /// Version: 1 to 4; 0: the hardware has it.
+    /// Version: 1 to 4; 0: the hardware shows it.
     pub version: u8,
 }
 
@@ -44,7 +44,7 @@ pub struct GicCpuInterface {
     pub parking_protocol_version: u32,
     /// SPE Overflow Interrupt.
     pub spe_overflow_interrupt: u16,
-    /// TRBE Interrupt, since ACPI 6.5: 0 below revision 6, and if the entry hasn't both bytes.
+    /// TRBE Interrupt, since ACPI 6.5: 0 below revision 6, and if the entry lacks one of its bytes.
     pub trace_buffer_interrupt: u16,
     /// Whether it can be used.
     pub is_enabled: u8,
@@ -54,7 +54,7 @@ pub struct GicCpuInterface {
     pub performance_trigger: u8,
     /// Whether the maintenance interrupt is edge-triggered.
     pub maintenance_trigger: u8,
-    /// Processor Power Efficiency Class: less is less power.
+    /// Processor Power Efficiency Class: lower uses less power.
     pub efficiency_class: u8,
 }
 
@@ -80,7 +80,7 @@ pub struct GicMsiFrame {
     pub spi_base: u16,
     /// SPI Count: the number of its interrupts.
     pub spi_count: u16,
-    /// SPI Count/Base Select, bit 0 of Flags. 0: the frame's registers have them.
+    /// SPI Count/Base Select, bit 0 of Flags. 0: the frame's registers show them.
     pub has_spis: u8,
 }
 
@@ -96,7 +96,7 @@ pub struct ArmTimer {
     pub trigger: u8,
     /// Whether it keeps its state in each power state of the processor.
     pub always_on: u8,
-    /// Present: 0: the table hasn't this timer's fields, and all else is 0.
+    /// Present: 0: the table lacks this timer's fields, and all else is 0.
     pub present: u8,
 }
 

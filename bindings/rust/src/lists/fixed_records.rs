@@ -112,11 +112,11 @@ pub struct Console {
     /// Base Address. None if all its twelve bytes are 0.
     pub base: Register,
     /// Precise Baud Rate, or if that is 0 what Configured Baud Rate means: 3 9600, 4 19200, 6 57600, 7 115200; 0 unless
-    /// it is there. In bits in a second.
+    /// it is there. In bits per second.
     pub baud_rate: u32,
     /// Global system interrupt: 0 unless it is there.
     pub global_system_interrupt: u32,
-    /// UART Clock Frequency, in Hz. 0: unspecified, or is below revision 3.
+    /// UART Clock Frequency, in Hz. 0: unspecified, or the table is below revision 3.
     pub clock_frequency: u32,
     /// PCI flags: bit 0: neither switch the device off nor look for its like.
     pub pci_flags: u32,

@@ -18,7 +18,7 @@ pub struct InterruptModel {
     pub nmi_lines: usize,
     /// The number of processors.
     pub processors: usize,
-    /// Known: 1 if a MADT has an entry of Types 0 to 5, 9 or 0xa; else all is 0.
+    /// Known: 1 if a MADT lists an entry of Types 0 to 5, 9 or 0xa; else all is 0.
     pub known: u8,
     /// PCAT_COMPAT, bit 0 of Flags: there is a pair of 8259s to be masked.
     pub also_has_8259: u8,
@@ -28,7 +28,7 @@ pub struct InterruptModel {
 #[repr(C)]
 #[derive(Clone, Copy, Debug, Default, PartialEq, Eq)]
 pub struct LocalApic {
-    /// Address: as for `struct zacpi_interrupt_model`, of the entries up to where none begins.
+    /// Address: as in `struct zacpi_interrupt_model`, by the entries up to where none begins.
     pub address: u64,
     /// PCAT_COMPAT, bit 0 of Flags.
     pub also_has_8259: u8,

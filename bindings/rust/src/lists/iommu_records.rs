@@ -8,7 +8,7 @@ pub use crate::iommu::Hop;
 #[repr(C)]
 #[derive(Clone, Copy, Debug, Default, PartialEq, Eq)]
 pub struct DmarFlags {
-    /// Host Address Width and 1.
+    /// Host Address Width plus 1.
     pub address_bits: u16,
     /// Flags: of `enum zacpi_dmar_flag`.
     pub flags: u8,
@@ -36,7 +36,7 @@ pub struct DmarUnit {
 #[repr(C)]
 #[derive(Clone, Copy, Debug, Default, PartialEq, Eq)]
 pub struct DmarScope {
-    /// Path length: how many hops Path has; `path` has the first 16, and zeros after them.
+    /// Path length: how many hops Path has; `path` lists the first 16, then zeros.
     pub path_length: usize,
     /// Type of the device scope.
     pub scope_type: u8,
@@ -158,7 +158,7 @@ pub struct IvrsMemory {
 #[repr(C)]
 #[derive(Clone, Copy, Debug, Default, PartialEq, Eq)]
 pub struct IvrsEntry {
-    /// Unique ID length: `unique_id` has the first 32 bytes of Unique ID, and zeros.
+    /// Unique ID length: `unique_id` is the first 32 bytes of Unique ID, then zeros.
     pub unique_id_length: usize,
     /// Extended DTE Setting.
     pub extended_settings: u32,

@@ -40,8 +40,8 @@ pub struct GenericInitiator {
     pub domain: u32,
     /// Architectural Transactions, bit 1 of Flags.
     pub is_architectural: u8,
-    /// Device Handle Type: what `handle` has. 0: _HID in 8 bytes, _UID in 4. 1: PCI Segment in 2 bytes, PCI BDF Number
-    /// in 2.
+    /// Device Handle Type: what `handle` contains. 0: _HID in 8 bytes, _UID in 4. 1: PCI Segment in 2 bytes, PCI BDF
+    /// Number in 2.
     pub handle_type: u8,
     /// Device Handle.
     pub handle: [u8; 16],
@@ -63,7 +63,7 @@ pub struct ItsAffinity {
 pub struct Localities {
     /// Number of System Localities: rows of the matrix, from 0 on.
     pub localities: u64,
-    /// Is sane: 1: there are localities, the table has all distances, 10 of each locality from itself, and more than 10
-    /// of others.
+    /// Is sane: 1: there are localities, the table lists all distances, each locality is at 10 from itself, and at more
+    /// than 10 from others.
     pub is_sane: u8,
 }

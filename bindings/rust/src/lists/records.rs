@@ -24,8 +24,8 @@ pub struct Source<'a> {
     pub address: u64,
     /// Start: one of `enum zacpi_start`.
     pub start: u32,
-    /// Accept: 0, or bits of `enum zacpi_accept`: a root table, a listed table or a DSDT is valid if it has no other
-    /// error. An RSDP may have none.
+    /// Accept: 0, or bits of `enum zacpi_accept`: a root table, a listed table or a DSDT with no other error is valid.
+    /// In an RSDP no error is accepted.
     pub accept: u32,
 }
 
@@ -43,7 +43,7 @@ pub struct Place {
 #[repr(C)]
 #[derive(Clone, Copy, Debug, Default, PartialEq, Eq)]
 pub struct Signature {
-    /// Letters: as "APIC", without a zero after it.
+    /// Letters: such as "APIC", without a zero after it.
     pub letters: [u8; 4],
 }
 
@@ -113,7 +113,7 @@ pub struct Table {
 pub struct Member {
     /// Table: zeros but for the address unless has_header.
     pub table: Table,
-    /// Status: 0, or if zacpi_list_tables skips it its first error of zacpi_open's order that `accept` doesn't take.
+    /// Status: 0, or, if zacpi_list_tables skips it, its first error in zacpi_open's order that `accept` doesn't take.
     pub status: u32,
     /// Has header: 0: the 36 bytes of a header aren't mapped there.
     pub has_header: u8,
@@ -125,10 +125,10 @@ pub struct Member {
 pub struct Fault {
     /// The physical address.
     pub address: u64,
-    /// Status: why it isn't valid: ZACPI_MAP_FAILED or a ZACPI_SDT_ error, but for ZACPI_SDT_INVALID_SIGNATURE. Of
-    /// several the first of zacpi_open's order that `accept` doesn't take, or if it takes all, the first.
+    /// Status: why it isn't valid: ZACPI_MAP_FAILED or a ZACPI_SDT_ error other than ZACPI_SDT_INVALID_SIGNATURE. Of
+    /// several, the first in zacpi_open's order that `accept` doesn't take, or, if it takes all, the first.
     pub status: u32,
-    /// Accepted: 1: it isn't skipped, by `accept` of the source.
+    /// Accepted: 1: it isn't skipped, thanks to `accept` of the source.
     pub accepted: u8,
 }
 
@@ -156,7 +156,7 @@ pub struct Entry {
     pub address: u64,
     /// Type of the entry.
     pub entry_type: u32,
-    /// Length: with Type and Length.
+    /// Length: including Type and Length.
     pub length: u32,
 }
 
@@ -241,7 +241,7 @@ pub struct BootGraphic {
     pub y: u32,
     /// Orientation Offset, bits 1 and 2 of Status: in degrees, clockwise, 0, 90, 180 or 270.
     pub orientation: u16,
-    /// Displayed: bit 0 of Status: it is on the screen still.
+    /// Displayed: bit 0 of Status: it is still on the screen.
     pub displayed: u8,
     /// Image type: 0: a bitmap. 1: another code, which is reserved.
     pub image_type: u8,

@@ -123,7 +123,7 @@ pub struct FacsContents {
 #[repr(C)]
 #[derive(Clone, Copy, Debug, Default, PartialEq, Eq)]
 pub struct AmlContents<'a> {
-    /// AML: of what iasl compiles, which has a header, + 36.
+    /// AML: of what iasl compiles, which begins with a header, from + 36 on.
     pub aml: &'a [u8],
     /// Revision.
     pub revision: u8,
