@@ -301,10 +301,10 @@ struct zacpi_source {
 
 /* Lists the ranges to make regions of, from ranges in any order: sorted, joined where they overlap
  * or touch, clipped to `window`, without what is in `without` (the kernel's image, and whatever is
- * written while calls run), and none empty. Reads no memory but the lists. These are put in order
- * in place: sorted by address, and each range cut to what none before it contains. One that is in
- * order isn't written. No two of `ranges`, `without`, `window`, `out` and `count` may overlap.
- * Fails with ZACPI_RANGE_TOO_HIGH. */
+ * written while calls run), and none empty. Reads only the lists, and puts these in order in place:
+ * sorted by address, each range cut to what no range before it contains. A list that is in order
+ * isn't written. No two of `ranges`, `without`, `window`, `out` and `count` may overlap. Fails with
+ * ZACPI_RANGE_TOO_HIGH. */
 ZACPI_STATUS zacpi_clip_ranges(struct zacpi_range *ranges, size_t ranges_length,
                                struct zacpi_range *without, size_t without_length,
                                const struct zacpi_range *window, struct zacpi_range *out,
@@ -436,10 +436,10 @@ ZACPI_STATUS zacpi_start_of_rsdp(const uint8_t *rsdp, size_t rsdp_length,
 ZACPI_STATUS zacpi_open(const struct zacpi_source *source, struct zacpi_root *out,
                         struct zacpi_signature *signature);
 
-/* Returns the RSDP of a start (section 5.2.5.3), whatever is at the addresses that it has: with
- * each of these as a start, zacpi_list_members has what either root table lists. Fails with an
- * opening error, except the errors of the root table; ZACPI_UNKNOWN_START is also the error of a
- * start at a root table. None writes `signature`. */
+/* Returns the RSDP of a start (section 5.2.5.3), whatever is at its addresses: with each of these
+ * as a start, zacpi_list_members returns what that root table lists. Fails with an opening error,
+ * except the errors of the root table; ZACPI_UNKNOWN_START is also the error of a start at a root
+ * table. None writes `signature`. */
 ZACPI_STATUS zacpi_get_rsdp(const struct zacpi_source *source, struct zacpi_rsdp *out,
                             struct zacpi_signature *signature);
 
@@ -467,7 +467,7 @@ ZACPI_STATUS zacpi_list_tables(const struct zacpi_source *source, struct zacpi_t
                                size_t capacity, size_t *count, struct zacpi_signature *signature);
 
 /* Lists what each pointer of the root table points to, also if that is no valid table (sections
- * 5.2.6 to 5.2.8): zacpi_list_tables has the items of status 0. Fails with an opening error. */
+ * 5.2.6 to 5.2.8): zacpi_list_tables returns those of status 0. Fails with an opening error. */
 ZACPI_STATUS zacpi_list_members(const struct zacpi_source *source, struct zacpi_member *out,
                                 size_t capacity, size_t *count, struct zacpi_signature *signature);
 
@@ -510,8 +510,8 @@ ZACPI_STATUS zacpi_list_entries(const struct zacpi_source *source, uint64_t tabl
                                 struct zacpi_signature *signature);
 
 /* Lists the members of the root table that a lookup of the wanted signature, by a call that needs
- * its fixed fields, skips for another reason than their Signature, up to the one that it finds, and
- * last that one if it finds it by `accept` alone (section 5.2.6). Fails with an opening error. */
+ * its fixed fields, skips for a reason other than their Signature, up to the one that it finds, and
+ * last that one if only `accept` lets it find it (section 5.2.6). Fails with an opening error. */
 ZACPI_STATUS zacpi_list_faults(const struct zacpi_source *source, struct zacpi_signature wanted,
                                struct zacpi_fault *out, size_t capacity, size_t *count,
                                struct zacpi_signature *signature);
@@ -696,8 +696,8 @@ enum zacpi_console_type {
 };
 
 /* Returns the fixed hardware of the FADT. The registers of pm1a and reset are present at address 0
- * too, and the sleep registers if the table is of revision 2 or above and has all their bytes: 0
- * means none. Fails with an opening error, or ZACPI_TABLE_MISSING "FACP". */
+ * too, and so are the sleep registers if the table is of revision 2 or above and contains all their
+ * bytes: 0 means none. Fails with an opening error, or ZACPI_TABLE_MISSING "FACP". */
 ZACPI_STATUS zacpi_get_fixed_hardware(const struct zacpi_source *source,
                                       struct zacpi_fixed_hardware *out,
                                       struct zacpi_signature *signature);
@@ -777,11 +777,12 @@ struct zacpi_sleep_types {
  * of the state that has another value than such a package, be it an integer or a package of no
  * elements, and hides what follows. */
 
-/* Returns the sleep types of S0 to S5: those of the first of the DSDT and the SSDTs that has the
- * state's package, each as a byte. Fails with an opening error, or ZACPI_NO_SUCH_STATE; if no table
- * has it, with ZACPI_TABLE_MISSING "FACP", ZACPI_INVALID_DSDT_ADDRESS, an error of a table with
- * "DSDT", ZACPI_AML_INVALID or ZACPI_SLEEP_STATE_NOT_SEEN of the first table with one of them, or
- * ZACPI_SLEEP_STATE_ABSENT; then with ZACPI_SLEEP_TYPE_TOO_HIGH if one of the two is above 255. */
+/* Returns the sleep types of S0 to S5, each as a byte, from the first of the DSDT and the SSDTs
+ * that contains the state's package. Fails with an opening error, or ZACPI_NO_SUCH_STATE; if no
+ * table contains it, with ZACPI_TABLE_MISSING "FACP", ZACPI_INVALID_DSDT_ADDRESS, an error of a
+ * table with "DSDT", ZACPI_AML_INVALID or ZACPI_SLEEP_STATE_NOT_SEEN of the first table with one of
+ * them, or ZACPI_SLEEP_STATE_ABSENT; then with ZACPI_SLEEP_TYPE_TOO_HIGH if one of the two is above
+ * 255. */
 ZACPI_STATUS zacpi_get_sleep_types(const struct zacpi_source *source, uint32_t state,
                                    struct zacpi_sleep_types *out,
                                    struct zacpi_signature *signature);
@@ -941,9 +942,9 @@ ZACPI_STATUS zacpi_get_interrupt_model(const struct zacpi_source *source,
                                        struct zacpi_interrupt_model *out,
                                        struct zacpi_signature *signature);
 
-/* Returns the address of each processor's local APIC by the MADT alone, whatever is wrong with other
- * entries: the one of zacpi_get_interrupt_model, if that has one. Fails with an opening error, or
- * ZACPI_TABLE_MISSING "APIC". */
+/* Returns the address of each processor's local APIC by only the MADT, whatever is wrong with other
+ * entries: the address that zacpi_get_interrupt_model returns, if it returns one. Fails with an
+ * opening error, or ZACPI_TABLE_MISSING "APIC". */
 ZACPI_STATUS zacpi_get_local_apic(const struct zacpi_source *source, struct zacpi_local_apic *out,
                                   struct zacpi_signature *signature);
 
@@ -993,7 +994,7 @@ struct zacpi_entry_fault {
     uint16_t entry_type; /* Type of the entry, or there; 0 at the table's end */
 };
 /* Lists the entries with a ZACPI_MADT_ error (of several the least) or ZACPI_SHORT_RISCV_ENTRY, and
- * last, if bytes are left, where none begins, with ZACPI_MADT_INVALID_ENTRY_LENGTH. That one alone
+ * last, if bytes are left, where none begins, with ZACPI_MADT_INVALID_ENTRY_LENGTH. Only that one
  * ends the lists of the MADT's entries, also of an Arm machine, whose entries of a GIC have
  * ZACPI_MADT_UNEXPECTED_ENTRY. Fails with an opening error, or ZACPI_TABLE_MISSING "APIC". */
 ZACPI_STATUS zacpi_list_madt_faults(const struct zacpi_source *source,
@@ -1034,8 +1035,8 @@ struct zacpi_io_apic_pin {
 };
 
 /* Returns how one of the 16 ISA interrupts comes to the I/O APICs: by its last override of bus 0,
- * or else as the interrupt of the same number; active high and by edge unless the override has
- * others (section 5.2.12.5). Fails with an opening error, ZACPI_TABLE_MISSING "APIC",
+ * or else as the interrupt of the same number; active high and by edge unless the override states
+ * otherwise (section 5.2.12.5). Fails with an opening error, ZACPI_TABLE_MISSING "APIC",
  * ZACPI_NO_APICS, ZACPI_MADT_MPS_INTI_INVALID_POLARITY or ZACPI_MADT_MPS_INTI_INVALID_TRIGGER_MODE
  * of the override, or ZACPI_NO_SUCH_INTERRUPT for an irq above 15, and for one without an override
  * if the last override of another source of bus 0 has its number. */
@@ -1045,8 +1046,8 @@ ZACPI_STATUS zacpi_get_isa_interrupt(const struct zacpi_source *source, uint8_t 
 
 /* Returns how the System Control Interrupt (SCI), SCI_INT of the FADT, comes to the I/O APICs: by
  * its last override of bus 0 if it is below 16, or else as the interrupt of the same number; active
- * low and by level unless the override has others (sections 5.2.9 and 5.2.12.5). Fails with an
- * opening error, ZACPI_TABLE_MISSING "APIC", ZACPI_NO_APICS, ZACPI_TABLE_MISSING "FACP", or
+ * low and by level unless the override states otherwise (sections 5.2.9 and 5.2.12.5). Fails with
+ * an opening error, ZACPI_TABLE_MISSING "APIC", ZACPI_NO_APICS, ZACPI_TABLE_MISSING "FACP", or
  * ZACPI_MADT_MPS_INTI_INVALID_POLARITY or ZACPI_MADT_MPS_INTI_INVALID_TRIGGER_MODE of the
  * override. */
 ZACPI_STATUS zacpi_get_sci_interrupt(const struct zacpi_source *source, struct zacpi_interrupt *out,
@@ -1246,8 +1247,8 @@ struct zacpi_plic { /* Platform Level Interrupt Controller, Type 0x1b */
 };
 
 /* Each lists the MADT's entries of one Type, up to where none begins, since Length is above the
- * bytes left or below the least of its Type (at ZACPI_NO_APICS). zacpi_list_madt_faults has those
- * that are skipped, with ZACPI_SHORT_RISCV_ENTRY. Fails with an opening error, ZACPI_TABLE_MISSING
+ * bytes left or below the least of its Type (at ZACPI_NO_APICS). zacpi_list_madt_faults lists the
+ * skipped ones, with ZACPI_SHORT_RISCV_ENTRY. Fails with an opening error, ZACPI_TABLE_MISSING
  * "APIC", or ZACPI_NO_RISCV if no entry of Types 0x18 to 0x1b is listed. */
 ZACPI_STATUS zacpi_list_rintcs(const struct zacpi_source *source, struct zacpi_rintc *out,
                                size_t capacity, size_t *count, struct zacpi_signature *signature);
@@ -1419,7 +1420,7 @@ enum zacpi_dmar_type { /* Type of a structure, section 8.2 */
     ZACPI_DMAR_ANDD = 4, ZACPI_DMAR_SATC = 5, ZACPI_DMAR_SIDP = 6
 };
 
-/* Returns what the DMAR has for all units (section 8.1). Fails with an opening error, or
+/* Returns what the DMAR states for all units (section 8.1). Fails with an opening error, or
  * ZACPI_TABLE_MISSING "DMAR". */
 ZACPI_STATUS zacpi_get_dmar_flags(const struct zacpi_source *source, struct zacpi_dmar_flags *out,
                                   struct zacpi_signature *signature);
@@ -1450,10 +1451,10 @@ ZACPI_STATUS zacpi_list_dmar_root_ports(const struct zacpi_source *source,
 ZACPI_STATUS zacpi_list_dmar_affinities(const struct zacpi_source *source,
                                         struct zacpi_dmar_affinity *out, size_t capacity,
                                         size_t *count, struct zacpi_signature *signature);
-/* Lists the device scopes of a structure, up to the first byte at which none begins: of the
- * `index`-th, from 0 on, of a Type, of enum zacpi_dmar_type, which is the `index`-th item of the
- * list of its Type. Types other than DRHD, RMRR, ATSR, SATC and SIDP have none. Fails with an
- * opening error, ZACPI_TABLE_MISSING "DMAR", or ZACPI_NO_IOMMU if there is no such structure. */
+/* Lists the device scopes of the `index`-th structure of a Type (of enum zacpi_dmar_type), from 0
+ * on, up to the first byte at which none begins. The structure is the `index`-th item of the list
+ * of its Type. Types other than DRHD, RMRR, ATSR, SATC and SIDP have none. Fails with an opening
+ * error, ZACPI_TABLE_MISSING "DMAR", or ZACPI_NO_IOMMU if there is no such structure. */
 ZACPI_STATUS zacpi_list_dmar_structure_scopes(const struct zacpi_source *source,
                                               uint16_t structure_type, size_t index,
                                               struct zacpi_dmar_scope *out, size_t capacity,
@@ -1469,21 +1470,21 @@ ZACPI_STATUS zacpi_list_dmar_faults(const struct zacpi_source *source,
  * scope whose Start Bus Number is the bus names it by Type 1 if its Path is the hops, and by Type 2
  * if these begin with its Path, of at least one (section 8.3.1). Fails with an opening error,
  * ZACPI_TABLE_MISSING "DMAR", ZACPI_IOMMU_INVALID_STRUCTURE_LENGTH of a DRHD of the segment before
- * it (without it of any, or of the table), or ZACPI_NO_IOMMU. */
+ * it (if none is found, of any or of the table), or ZACPI_NO_IOMMU. */
 ZACPI_STATUS zacpi_get_dmar_unit(const struct zacpi_source *source, uint16_t segment, uint8_t bus,
                                  const struct zacpi_hop *hops, size_t hops_length,
                                  struct zacpi_dmar_unit *out, struct zacpi_signature *signature);
 /* Returns the unit that remaps the interrupts of an I/O APIC: the first DRHD with a device scope of
  * Type 3 whose Enumeration ID is `id`. Fails with an opening error, ZACPI_TABLE_MISSING "DMAR",
- * ZACPI_IOMMU_INVALID_STRUCTURE_LENGTH of a DRHD before it (without it of any, or of the table), or
- * ZACPI_NO_IOMMU. */
+ * ZACPI_IOMMU_INVALID_STRUCTURE_LENGTH of a DRHD before it (if none is found, of any or of the
+ * table), or ZACPI_NO_IOMMU. */
 ZACPI_STATUS zacpi_get_dmar_io_apic(const struct zacpi_source *source, uint8_t id,
                                     struct zacpi_dmar_source *out,
                                     struct zacpi_signature *signature);
 /* Returns the unit that remaps the interrupts of an HPET: the first DRHD with a device scope of
  * Type 4 whose Enumeration ID is `number`. Fails with an opening error, ZACPI_TABLE_MISSING "DMAR",
- * ZACPI_IOMMU_INVALID_STRUCTURE_LENGTH of a DRHD before it (without it of any, or of the table), or
- * ZACPI_NO_IOMMU. */
+ * ZACPI_IOMMU_INVALID_STRUCTURE_LENGTH of a DRHD before it (if none is found, of any or of the
+ * table), or ZACPI_NO_IOMMU. */
 ZACPI_STATUS zacpi_get_dmar_hpet(const struct zacpi_source *source, uint8_t number,
                                  struct zacpi_dmar_source *out, struct zacpi_signature *signature);
 /* Lists the memory that is reserved for a device: each RMRR of the segment with a device scope that
@@ -1568,7 +1569,7 @@ ZACPI_STATUS zacpi_list_ivrs_faults(const struct zacpi_source *source,
  * or 0x40) it is the first of the segment with an entry for all devices, for this one, for a range
  * that contains it, or of a special device with it as Source DeviceID; the first such entry counts.
  * Fails with an opening error, ZACPI_TABLE_MISSING "IVRS", ZACPI_IOMMU_INVALID_STRUCTURE_LENGTH of
- * such an IVHD before it (without it of any, or of the table), or ZACPI_NO_IOMMU. */
+ * such an IVHD before it (if none is found, of any or of the table), or ZACPI_NO_IOMMU. */
 ZACPI_STATUS zacpi_get_ivrs_unit(const struct zacpi_source *source, uint16_t segment,
                                  uint16_t device_id, struct zacpi_ivrs_device *out,
                                  struct zacpi_signature *signature);

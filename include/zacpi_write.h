@@ -106,9 +106,9 @@ struct zacpi_facs_contents { /* section 5.2.10 */
     uint8_t supports_s4bios, supports_64_bit_wake;
 };
 
-/* Writes an RSDP of revision 2 that points to an XSDT (section 5.2.5.3): 36 bytes. Of `ids` it has
- * only OEMID. Fails with ZACPI_NO_ADDRESS if `xsdt` is 0, ZACPI_BAD_NAME, also of another name, or
- * ZACPI_NO_ROOM. */
+/* Writes an RSDP of revision 2 that points to an XSDT (section 5.2.5.3): 36 bytes. Of `ids` it
+ * contains only OEMID. Fails with ZACPI_NO_ADDRESS if `xsdt` is 0, ZACPI_BAD_NAME, also for another
+ * name, or ZACPI_NO_ROOM. */
 ZACPI_STATUS zacpi_write_rsdp(const struct zacpi_table_ids *ids, uint64_t xsdt, uint8_t *out,
                               size_t capacity, size_t *length);
 /* Write an RSDT, and an XSDT, of these addresses, in order, also of 0 (sections 5.2.7 and 5.2.8).
@@ -119,10 +119,10 @@ ZACPI_STATUS zacpi_write_rsdt(const struct zacpi_table_ids *ids, const uint32_t 
 ZACPI_STATUS zacpi_write_xsdt(const struct zacpi_table_ids *ids, const uint64_t *addresses,
                               size_t addresses_length, uint8_t *out, size_t capacity,
                               size_t *length);
-/* Write a DSDT, and an SSDT, of these bytes of AML, whose integers have 32 bits by a revision of 1,
- * 64 by 2 (section 5.2.11). What iasl compiles, as the array of `iasl -tc`, is a whole table, whose
- * AML is at `+ 36`, after its header, and 36 bytes shorter. Fail with ZACPI_HAS_HEADER,
- * ZACPI_BAD_NAME, ZACPI_NO_ROOM or ZACPI_TOO_LONG. */
+/* Write a DSDT, and an SSDT, of these bytes of AML, whose integers have 32 bits with a revision of
+ * 1, 64 with 2 (section 5.2.11). What iasl compiles, such as the array of `iasl -tc`, is a whole
+ * table, whose AML is at `+ 36`, after its header, and 36 bytes shorter. Fail with
+ * ZACPI_HAS_HEADER, ZACPI_BAD_NAME, ZACPI_NO_ROOM or ZACPI_TOO_LONG. */
 ZACPI_STATUS zacpi_write_dsdt(const struct zacpi_table_ids *ids, uint8_t revision,
                               const uint8_t *aml, size_t aml_length, uint8_t *out, size_t capacity,
                               size_t *length);
@@ -140,12 +140,12 @@ static inline uint8_t zacpi_byte_sum(const uint8_t *bytes, size_t length) {
     while (length > 0) sum = (uint8_t)(sum + bytes[--length]);
     return sum;
 }
-/* Makes the bytes of a table, which was changed in place, sum to 0 by its Checksum. It has at least
- * the 36 bytes of a header (section 5.2.6), which a FACS and an RSDP lack. */
+/* Sets the Checksum of a table that was changed in place, so that its bytes sum to 0. The table has
+ * at least the 36 bytes of a header (section 5.2.6), which a FACS and an RSDP lack. */
 static inline void zacpi_set_checksum(uint8_t *table, size_t length) {
     table[9] = (uint8_t)(table[9] - zacpi_byte_sum(table, length));
 }
-/* Writes a MADT of revision 5 (section 5.2.12): its entries sort by sort in the order of the lists,
+/* Writes a MADT of revision 5 (section 5.2.12): its entries kind by kind in the order of the lists,
  * the mailbox last. An address of 2^32 or above is in a Local APIC Address Override after the
  * processors, with 0 in Local Interrupt Controller Address. Processors whose uid and id are below
  * 255 are Processor Local APICs if is_x2apic is 0, others Processor Local x2APICs; lines of a uid
@@ -191,9 +191,9 @@ ZACPI_STATUS zacpi_write_hpet(const struct zacpi_table_ids *ids, const struct za
 ZACPI_STATUS zacpi_write_slit(const struct zacpi_table_ids *ids, uint64_t localities,
                               const uint8_t *distances, size_t distances_length, uint8_t *out,
                               size_t capacity, size_t *length);
-/* Writes a SRAT of revision 3 (section 5.2.16): its entries sort by sort, all enabled, of a Clock
- * Domain of 0. Processors whose APIC id is below 255 have a Processor Local APIC/SAPIC Affinity,
- * others a Processor Local x2APIC Affinity. Fails with ZACPI_ID_OF_ALL, ZACPI_BAD_RANGE,
+/* Writes an SRAT of revision 3 (section 5.2.16): its entries kind by kind, all enabled, with a
+ * Clock Domain of 0. Processors whose APIC id is below 255 get a Processor Local APIC/SAPIC
+ * Affinity, others a Processor Local x2APIC Affinity. Fails with ZACPI_ID_OF_ALL, ZACPI_BAD_RANGE,
  * ZACPI_BAD_NAME, ZACPI_NO_ROOM or ZACPI_TOO_LONG. */
 ZACPI_STATUS zacpi_write_srat(const struct zacpi_table_ids *ids,
                               const struct zacpi_srat_contents *contents, uint8_t *out,
@@ -221,8 +221,8 @@ ZACPI_STATUS zacpi_write_spcr(const struct zacpi_table_ids *ids,
 ZACPI_STATUS zacpi_write_gtdt(const struct zacpi_table_ids *ids,
                               const struct zacpi_gtdt_contents *contents, uint8_t *out,
                               size_t capacity, size_t *length);
-/* Returns what the FADT of a guest without fixed hardware has, but for dsdt_address. Begin with it
- * also for other `flags`: a record of zeros is written as having C2 and C3, with latencies of 0. */
+/* Returns the FADT of a guest without fixed hardware, except for dsdt_address. Begin with it also
+ * for other `flags`: a record of zeros is written as having C2 and C3, with latencies of 0. */
 static inline struct zacpi_fixed_hardware zacpi_fadt_reduced(void) {
     struct zacpi_fixed_hardware fadt;
     size_t i;
@@ -231,14 +231,14 @@ static inline struct zacpi_fixed_hardware zacpi_fadt_reduced(void) {
     fadt.c2_latency = 101, fadt.c3_latency = 1001; /* neither C2 nor C3 */
     return fadt;
 }
-/* Writes a FADT of version 6.4, 276 bytes (section 5.2.9). An address or a block is in its X_
- * field, and in its field of 32 bits if it fits, a block if it is one of ports; a length in bytes
- * is the whole bytes of bit_width, of pm_timer 4, and X_GPEn_BLK from 32 bytes on has a width of
- * 255. A register is there by `present` 1 and an address that isn't 0, pm1a unless the hardware is
- * reduced, and the reset by ZACPI_FADT_RESET_REG_SUP. What isn't there, and reduced fixed hardware,
- * is written as 0 and not looked at, nor are `gpe0`, `gpe1`, the last three fields and reserved
- * flags; sleep registers are read as present. Fails with ZACPI_UNKNOWN_CODE, ZACPI_NO_ADDRESS if
- * dsdt_address is 0, ZACPI_BAD_REGISTER, ZACPI_BAD_NAME or ZACPI_NO_ROOM. */
+/* Writes a FADT of version 6.4, 276 bytes (section 5.2.9). An address or a block goes to its X_
+ * field, and to its field of 32 bits if it fits there, a block only if it is of ports. A length in
+ * bytes is the whole bytes of bit_width, of pm_timer 4, and X_GPEn_BLK from 32 bytes on has a width
+ * of 255. A register is there if `present` is 1 and its address isn't 0, pm1a unless the hardware
+ * is reduced, and the reset register with ZACPI_FADT_RESET_REG_SUP. What isn't there, and reduced
+ * fixed hardware, is written as 0 and not looked at, and neither are `gpe0`, `gpe1`, the last three
+ * fields and reserved flags. Sleep registers are read as present. Fails with ZACPI_UNKNOWN_CODE,
+ * ZACPI_NO_ADDRESS if dsdt_address is 0, ZACPI_BAD_REGISTER, ZACPI_BAD_NAME or ZACPI_NO_ROOM. */
 ZACPI_STATUS zacpi_write_fadt(const struct zacpi_table_ids *ids,
                               const struct zacpi_fixed_hardware *fadt, uint8_t *out,
                               size_t capacity, size_t *length);
@@ -271,7 +271,7 @@ struct zacpi_machine {
 /* Writes all tables of a machine, for memory from `address` on: the RSDP, after 48 bytes the XSDT,
  * the DSDT, 128 bytes with the FACS at their first multiple of 64, and the listed tables in order,
  * each table at a multiple of 16 and filled up with zeros to the next. Fails with ZACPI_BAD_TABLE
- * if a listed one has fewer than 36 bytes, a Length that isn't theirs, or a sum that isn't 0,
+ * if a listed one has fewer than 36 bytes, another Length than bytes, or a sum that isn't 0,
  * ZACPI_BAD_NAME, ZACPI_TOO_LONG of the XSDT, ZACPI_HAS_HEADER of the DSDT, ZACPI_TOO_LONG,
  * ZACPI_NO_ROOM, or ZACPI_NO_ADDRESS if `address` is 0 or no multiple of 16, or the memory ends at
  * 2^64 or above. */
@@ -289,10 +289,9 @@ ZACPI_STATUS zacpi_tables_size(const struct zacpi_machine *machine, size_t *leng
  * this number. */
 ZACPI_STATUS zacpi_dsdt_address(uint64_t address, size_t tables_length, uint64_t *out);
 /* Returns the address of the FACS that zacpi_write_tables writes for this address, this number of
- * listed tables, and as the DSDT the first of `dsdts`, if there is one, of which only the length is
- * looked at. A FADT has to have a FACS, unless the hardware is reduced (section 5.2.9). Fails with
- * ZACPI_NO_ADDRESS if that is 2^64 or above, an XSDT can't list this number, or the DSDT would have
- * 2^32 bytes or more. */
+ * listed tables, and the length of the first of `dsdts`, the DSDT, if there is one. A FADT has to
+ * name a FACS, unless the hardware is reduced (section 5.2.9). Fails with ZACPI_NO_ADDRESS if that
+ * is 2^64 or above, an XSDT can't list this number, or the DSDT would have 2^32 bytes or more. */
 ZACPI_STATUS zacpi_facs_address(uint64_t address, size_t tables_length,
                                 const struct zacpi_aml_contents *dsdts, size_t dsdts_length,
                                 uint64_t *out);

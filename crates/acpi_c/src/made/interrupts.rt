@@ -29,8 +29,8 @@ pub extern "C" fn zacpi_1_get_interrupt_model(
     answer(model(source), out, named)
 }
 
-/// Returns the address of each processor's local APIC by the MADT alone, whatever is wrong with other entries: the one
-/// of zacpi_get_interrupt_model, if that has one.
+/// Returns the address of each processor's local APIC by only the MADT, whatever is wrong with other entries: the
+/// address that zacpi_get_interrupt_model returns, if it returns one.
 #[unsafe(no_mangle)]
 pub extern "C" fn zacpi_1_get_local_apic(
     source: &Source<'_>,
@@ -185,7 +185,7 @@ pub extern "C" fn zacpi_1_get_platform(
 }
 
 /// Returns how one of the 16 ISA interrupts comes to the I/O APICs: by its last override of bus 0, or else as the
-/// interrupt of the same number; active high and by edge unless the override has others (section 5.2.12.5).
+/// interrupt of the same number; active high and by edge unless the override states otherwise (section 5.2.12.5).
 #[unsafe(no_mangle)]
 pub extern "C" fn zacpi_1_get_isa_interrupt(
     source: &Source<'_>,
@@ -200,7 +200,7 @@ pub extern "C" fn zacpi_1_get_isa_interrupt(
 
 /// Returns how the System Control Interrupt (SCI), SCI_INT of the FADT, comes to the I/O APICs: by its last override of
 /// bus 0 if it is below 16, or else as the interrupt of the same number; active low and by level unless the override
-/// has others (sections 5.2.9 and 5.2.12.5).
+/// states otherwise (sections 5.2.9 and 5.2.12.5).
 #[unsafe(no_mangle)]
 pub extern "C" fn zacpi_1_get_sci_interrupt(
     source: &Source<'_>,

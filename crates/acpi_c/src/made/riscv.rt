@@ -7,7 +7,7 @@ use acpi_c_lib::riscv::{riscv_entries, riscv_entries_from};
 use acpi_riscv::{Aplic, Imsic, Plic, Rintc};
 
 /// Each lists the MADT's entries of one Type, up to where none begins, since Length is above the bytes left or below
-/// the least of its Type (at ZACPI_NO_APICS). zacpi_list_madt_faults has those that are skipped, with
+/// the least of its Type (at ZACPI_NO_APICS). zacpi_list_madt_faults lists the skipped ones, with
 /// ZACPI_SHORT_RISCV_ENTRY.
 #[unsafe(no_mangle)]
 pub extern "C" fn zacpi_1_list_rintcs(
@@ -23,7 +23,7 @@ pub extern "C" fn zacpi_1_list_rintcs(
 }
 
 /// Each lists the MADT's entries of one Type, up to where none begins, since Length is above the bytes left or below
-/// the least of its Type (at ZACPI_NO_APICS). zacpi_list_madt_faults has those that are skipped, with
+/// the least of its Type (at ZACPI_NO_APICS). zacpi_list_madt_faults lists the skipped ones, with
 /// ZACPI_SHORT_RISCV_ENTRY.
 #[unsafe(no_mangle)]
 pub extern "C" fn zacpi_1_list_imsics(
@@ -39,7 +39,7 @@ pub extern "C" fn zacpi_1_list_imsics(
 }
 
 /// Each lists the MADT's entries of one Type, up to where none begins, since Length is above the bytes left or below
-/// the least of its Type (at ZACPI_NO_APICS). zacpi_list_madt_faults has those that are skipped, with
+/// the least of its Type (at ZACPI_NO_APICS). zacpi_list_madt_faults lists the skipped ones, with
 /// ZACPI_SHORT_RISCV_ENTRY.
 #[unsafe(no_mangle)]
 pub extern "C" fn zacpi_1_list_aplics(
@@ -55,7 +55,7 @@ pub extern "C" fn zacpi_1_list_aplics(
 }
 
 /// Each lists the MADT's entries of one Type, up to where none begins, since Length is above the bytes left or below
-/// the least of its Type (at ZACPI_NO_APICS). zacpi_list_madt_faults has those that are skipped, with
+/// the least of its Type (at ZACPI_NO_APICS). zacpi_list_madt_faults lists the skipped ones, with
 /// ZACPI_SHORT_RISCV_ENTRY.
 #[unsafe(no_mangle)]
 pub extern "C" fn zacpi_1_list_plics(

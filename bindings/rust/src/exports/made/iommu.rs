@@ -13,7 +13,7 @@ use crate::lists::iommu_records::{
 use crate::lists::iommu_regions::{dmar_structures, ivrs_blocks};
 use crate::lists::records::{Signature, Source};
 
-/// Returns what the DMAR has for all units (section 8.1).
+/// Returns what the DMAR states for all units (section 8.1).
 #[unsafe(no_mangle)]
 pub extern "C" fn zacpi_1_get_dmar_flags(source: &Source<'_>, out: &mut DmarFlags, named: &mut Signature) -> u32 {
     answer(dmar_flags(source), out, named)
@@ -85,8 +85,8 @@ pub extern "C" fn zacpi_1_list_dmar_affinities(
     answer(dmar_structures(source, out), count, named)
 }
 
-/// Lists the device scopes of a structure, up to the first byte at which none begins: of the `index`-th, from 0 on, of
-/// a Type, of enum zacpi_dmar_type, which is the `index`-th item of the list of its Type.
+/// Lists the device scopes of the `index`-th structure of a Type (of enum zacpi_dmar_type), from 0 on, up to the first
+/// byte at which none begins.
 #[unsafe(no_mangle)]
 pub extern "C" fn zacpi_1_list_dmar_structure_scopes(
     source: &Source<'_>,

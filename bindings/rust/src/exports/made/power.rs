@@ -6,8 +6,8 @@ use crate::lists::power::{enable_plan, power_off_plan, reset_plan, sleep_plan, s
 use crate::lists::power_records::{Plan, SleepTypes};
 use crate::lists::records::{Signature, Source};
 
-/// Returns the sleep types of S0 to S5: those of the first of the DSDT and the SSDTs that has the state's package, each
-/// as a byte.
+/// Returns the sleep types of S0 to S5, each as a byte, from the first of the DSDT and the SSDTs that contains the
+/// state's package.
 #[unsafe(no_mangle)]
 pub extern "C" fn zacpi_1_get_sleep_types(
     source: &Source<'_>,

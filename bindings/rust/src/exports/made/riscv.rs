@@ -7,7 +7,7 @@ use crate::lists::riscv::{riscv_entries, riscv_entries_from};
 use crate::riscv::{Aplic, Imsic, Plic, Rintc};
 
 /// Each lists the MADT's entries of one Type, up to where none begins, since Length is above the bytes left or below
-/// the least of its Type (at ZACPI_NO_APICS). zacpi_list_madt_faults has those that are skipped, with
+/// the least of its Type (at ZACPI_NO_APICS). zacpi_list_madt_faults lists the skipped ones, with
 /// ZACPI_SHORT_RISCV_ENTRY.
 #[unsafe(no_mangle)]
 pub extern "C" fn zacpi_1_list_rintcs(
@@ -22,7 +22,7 @@ pub extern "C" fn zacpi_1_list_rintcs(
 }
 
 /// Each lists the MADT's entries of one Type, up to where none begins, since Length is above the bytes left or below
-/// the least of its Type (at ZACPI_NO_APICS). zacpi_list_madt_faults has those that are skipped, with
+/// the least of its Type (at ZACPI_NO_APICS). zacpi_list_madt_faults lists the skipped ones, with
 /// ZACPI_SHORT_RISCV_ENTRY.
 #[unsafe(no_mangle)]
 pub extern "C" fn zacpi_1_list_imsics(
@@ -37,7 +37,7 @@ pub extern "C" fn zacpi_1_list_imsics(
 }
 
 /// Each lists the MADT's entries of one Type, up to where none begins, since Length is above the bytes left or below
-/// the least of its Type (at ZACPI_NO_APICS). zacpi_list_madt_faults has those that are skipped, with
+/// the least of its Type (at ZACPI_NO_APICS). zacpi_list_madt_faults lists the skipped ones, with
 /// ZACPI_SHORT_RISCV_ENTRY.
 #[unsafe(no_mangle)]
 pub extern "C" fn zacpi_1_list_aplics(
@@ -52,7 +52,7 @@ pub extern "C" fn zacpi_1_list_aplics(
 }
 
 /// Each lists the MADT's entries of one Type, up to where none begins, since Length is above the bytes left or below
-/// the least of its Type (at ZACPI_NO_APICS). zacpi_list_madt_faults has those that are skipped, with
+/// the least of its Type (at ZACPI_NO_APICS). zacpi_list_madt_faults lists the skipped ones, with
 /// ZACPI_SHORT_RISCV_ENTRY.
 #[unsafe(no_mangle)]
 pub extern "C" fn zacpi_1_list_plics(

@@ -27,8 +27,8 @@ pub extern "C" fn zacpi_1_open(source: &Source<'_>, out: &mut Root, named: &mut 
     answer(root(source), out, named)
 }
 
-/// Returns the RSDP of a start (section 5.2.5.3), whatever is at the addresses that it has: with each of these as a
-/// start, zacpi_list_members has what either root table lists.
+/// Returns the RSDP of a start (section 5.2.5.3), whatever is at its addresses: with each of these as a start,
+/// zacpi_list_members returns what that root table lists.
 #[unsafe(no_mangle)]
 pub extern "C" fn zacpi_1_get_rsdp(source: &Source<'_>, out: &mut Rsdp, named: &mut Signature) -> u32 {
     answer(rsdp(source), out, named)
@@ -62,7 +62,7 @@ pub extern "C" fn zacpi_1_list_tables(
 }
 
 /// Lists what each pointer of the root table points to, also if that is no valid table (sections 5.2.6 to 5.2.8):
-/// zacpi_list_tables has the items of status 0.
+/// zacpi_list_tables returns those of status 0.
 #[unsafe(no_mangle)]
 pub extern "C" fn zacpi_1_list_members(
     source: &Source<'_>,
@@ -122,8 +122,8 @@ pub extern "C" fn zacpi_1_list_entries(
 }
 
 /// Lists the members of the root table that a lookup of the wanted signature, by a call that needs its fixed fields,
-/// skips for another reason than their Signature, up to the one that it finds, and last that one if it finds it by
-/// `accept` alone (section 5.2.6).
+/// skips for a reason other than their Signature, up to the one that it finds, and last that one if only `accept` lets
+/// it find it (section 5.2.6).
 #[unsafe(no_mangle)]
 pub extern "C" fn zacpi_1_list_faults(
     source: &Source<'_>,

@@ -57,8 +57,8 @@ pub extern "C" fn zacpi_1_write_xsdt(
     written(write_xsdt(out, ids, addresses), count)
 }
 
-/// Write a DSDT, and an SSDT, of these bytes of AML, whose integers have 32 bits by a revision of 1, 64 by 2 (section
-/// 5.2.11).
+/// Write a DSDT, and an SSDT, of these bytes of AML, whose integers have 32 bits with a revision of 1, 64 with 2
+/// (section 5.2.11).
 #[unsafe(no_mangle)]
 pub extern "C" fn zacpi_1_write_dsdt(
     ids: &TableIds,
@@ -74,8 +74,8 @@ pub extern "C" fn zacpi_1_write_dsdt(
     written(write_dsdt(out, ids, revision, aml), count)
 }
 
-/// Write a DSDT, and an SSDT, of these bytes of AML, whose integers have 32 bits by a revision of 1, 64 by 2 (section
-/// 5.2.11).
+/// Write a DSDT, and an SSDT, of these bytes of AML, whose integers have 32 bits with a revision of 1, 64 with 2
+/// (section 5.2.11).
 #[unsafe(no_mangle)]
 pub extern "C" fn zacpi_1_write_ssdt(
     ids: &TableIds,
@@ -108,7 +108,7 @@ pub extern "C" fn zacpi_1_write_table(
     written(write_table(out, ids, signature, revision, body), count)
 }
 
-/// Writes a MADT of revision 5 (section 5.2.12): its entries sort by sort in the order of the lists, the mailbox last.
+/// Writes a MADT of revision 5 (section 5.2.12): its entries kind by kind in the order of the lists, the mailbox last.
 #[unsafe(no_mangle)]
 pub extern "C" fn zacpi_1_write_madt(
     ids: &TableIds,
@@ -207,7 +207,7 @@ pub extern "C" fn zacpi_1_write_slit(
     written(write_slit(out, ids, localities, distances), count)
 }
 
-/// Writes a SRAT of revision 3 (section 5.2.16): its entries sort by sort, all enabled, of a Clock Domain of 0.
+/// Writes an SRAT of revision 3 (section 5.2.16): its entries kind by kind, all enabled, with a Clock Domain of 0.
 #[unsafe(no_mangle)]
 pub extern "C" fn zacpi_1_write_srat(
     ids: &TableIds,
@@ -327,7 +327,7 @@ pub extern "C" fn zacpi_1_dsdt_address(address: u64, tables: usize, out: &mut u6
 }
 
 /// Returns the address of the FACS that zacpi_write_tables writes for this address, this number of listed tables, and
-/// as the DSDT the first of `dsdts`, if there is one, of which only the length is looked at.
+/// the length of the first of `dsdts`, the DSDT, if there is one.
 #[unsafe(no_mangle)]
 pub extern "C" fn zacpi_1_facs_address(
     address: u64,
