@@ -65,7 +65,7 @@ const uint8_t zacpi_needs_kernel_archive = 0;
 
 /* For a caller that never passes the start of a search: such a start is then an unknown one. */
 #if defined(ZACPI_NO_SEARCH)
-#define KNOWN_START(start) ((start) < 3 ? (start) : 5)
+#define KNOWN_START(start) ((start) < 3 ? (start) : ~(u32)0)
 #else
 #define KNOWN_START(start) (start)
 #endif
