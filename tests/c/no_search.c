@@ -28,6 +28,7 @@ static void starts(void) {
     struct zacpi_source source = {NULL, 1, RSDP, ZACPI_START_RSDP, 0};
     struct zacpi_root root;
     struct zacpi_rsdp rsdp;
+    struct zacpi_signature named = ZACPI_SIGNATURE("none");
     size_t count;
     all.address = 0;
     all.bytes = memory;
@@ -41,6 +42,12 @@ static void starts(void) {
         WANT(zacpi_list_tables(&source, NULL, 0, &count, NULL), ZACPI_UNKNOWN_START);
         WANT(zacpi_list_missing_ranges(&source, NULL, 0, &count, NULL), ZACPI_UNKNOWN_START);
     }
+    /* An RSDP's error names no table. */
+    source.start = ZACPI_START_RSDP;
+    memory[RSDP + 8]++;
+    WANT(zacpi_get_rsdp(&source, &rsdp, &named), ZACPI_RSDP_INVALID_CHECKSUM);
+    WANT(memcmp(&named, "none", 4) != 0, 0);
+    memory[RSDP + 8]--;
     source.start = ZACPI_START_RSDT;
     source.address = RSDT;
     WANT(zacpi_open(&source, &root, NULL), ZACPI_OK);

@@ -128,7 +128,8 @@ class Body(Expressions):
             ways.setdefault(bare(label), []).append(said + (f' /* {names[value]} */' if value in names else ''))
         inside, arms = around + [(follow, None)], []
         asked = self.value(kind, found[2]).text
-        if said_of(self.function.name, 'started') and {'3', '4'} <= set(re.findall(r'i\d+ (-?\d+),', found[4])):
+        numbers = set(re.findall(r'i\d+ (-?\d+),', found[4]))
+        if said_of(self.function.name, 'started') and {'3', '4'} <= numbers <= set('01234'): # others aren't of starts
             asked, self.is_started = f'KNOWN_START({asked})', True
         text = f'switch ({asked}) {{'
         out.append(text + remark(self.notes))
