@@ -1,7 +1,7 @@
 -- What comes at the front of what is read: a line of a text, a pair of digits, the numbers of a record.
 use Rattle.std.proofs.Common.{◌≡◌, ℕ, ◌+◌, ◌<◌, ◌≤◌, ◌==◌, Bool, true, false, List, [], ◌∷◌, length, refl, ap, arith, if◌then◌else◌, zero, suc, ◌-◌, ◌++◌, Some, None, ◌^◌, w64, take, Ok, Err}
 use Rattle.acpi_base.specs.FromStd.{after_first, before_first, to_le_bytes}
-use Rattle.acpi_dump_input.specs.DumpText.{Tables, all_of, lines_of, onto_first, or_wrong, tables_from, with_line, begins_with_gap, first_pair, with_pairs}
+use Rattle.acpi_dump_input.specs.DumpText.{Tables, all_of, lines_of, onto_first, or_wrong, tables_from, with_line, after_dash, begins_with_gap, first_pair, with_pairs}
 use Rattle.acpi_base.proofs.FromStd.{common_steps}
 use Rattle.acpi_base.specs.Words.{spelling}
 use Rattle.acpi_image.proofs.Written.{low_bytes}
@@ -65,19 +65,19 @@ unfolding with_pairs
 pairs_done zero bytes text none = refl
 pairs_done (suc n) bytes text none = absurd (omega arith)
 
-pub pairs_gap : (n : ℕ) (bytes text : List ℕ) → begins_with_gap text ≡ true → with_pairs n bytes text ≡ Some bytes
+pub pairs_gap : (n : ℕ) (bytes text : List ℕ) → begins_with_gap (after_dash n text) ≡ true → with_pairs n bytes text ≡ Some bytes
 unfolding with_pairs
 pairs_gap zero bytes text h = refl
 pairs_gap (suc n) bytes text h = rw h refl
 
-pub pairs_wrong : (n : ℕ) (bytes text : List ℕ) → 0 < n → begins_with_gap text ≡ false
-    → first_pair text ≡ None → with_pairs n bytes text ≡ None
+pub pairs_wrong : (n : ℕ) (bytes text : List ℕ) → 0 < n → begins_with_gap (after_dash n text) ≡ false
+    → first_pair (after_dash n text) ≡ None → with_pairs n bytes text ≡ None
 unfolding with_pairs
 pairs_wrong zero bytes text some h e = absurd (omega arith)
 pairs_wrong (suc n) bytes text some h e = rw (h, e) refl
 
-pub pairs_more : (n b : ℕ) (bytes text rest : List ℕ) → 0 < n → begins_with_gap text ≡ false
-    → first_pair text ≡ Some (b, rest) → with_pairs n bytes text ≡ with_pairs (n - 1) (bytes ++ b ∷ []) rest
+pub pairs_more : (n b : ℕ) (bytes text rest : List ℕ) → 0 < n → begins_with_gap (after_dash n text) ≡ false
+    → first_pair (after_dash n text) ≡ Some (b, rest) → with_pairs n bytes text ≡ with_pairs (n - 1) (bytes ++ b ∷ []) rest
 unfolding with_pairs
 pairs_more zero b bytes text rest some h e = absurd (omega arith)
 pairs_more (suc n) b bytes text rest some h e =

@@ -11,4 +11,4 @@ abbrev pub tables_in : List SpelledTable → List Spelled
 tables_in tables = map spelled_of tables
 
 abbrev pub reading_of : Reading → Tables
-reading_of r = record { whole = tables_in r.whole.items; current = option_map spelled_of r.current }
+reading_of r = record { whole = tables_in r.whole.items; current = option_map spelled_of r.current; said = r.said }

@@ -1,7 +1,7 @@
-//! A row of a table in the text of acpidump: its offset, a colon, and up to 16 pairs of hexadecimal digits.
-ghost use Rattle.std.specs.Prelude.{◌≡◌, ◌<◌, IfOk, IfSome, Some, None, if◌then◌else◌, length, option_map};
-ghost use Rattle.acpi_base.specs.FromStd.{digit_value, is_digit};
-ghost use Rattle.acpi_dump_input.specs.DumpText.{begins_with_gap, byte_of as pair_byte, first_pair as pair_of, is_gap, row_of, with_pairs};
+//! A row of a table in the text of acpidump or acpiview: its offset, a colon, and up to 16 pairs of hexadecimal digits.
+ghost use Rattle.std.specs.Prelude.{◌≡◌, ◌<◌, ◌==◌, IfOk, IfSome, Some, None, if◌then◌else◌, length, option_map};
+ghost use Rattle.acpi_base.specs.FromStd.{after_first, before_first, digit_value, is_digit};
+ghost use Rattle.acpi_dump_input.specs.DumpText.{after_dash, begins_with_gap, byte_of as pair_byte, first_pair as pair_of, is_gap, offset_of, row_of, with_pairs};
 
 use acpi_cli::number_of;
 use std::alloc::AllocError;
@@ -15,14 +15,38 @@ pub(crate) struct Row<'t> {
     pub(crate) pairs: &'t [u8],
 }
 
-/// The row that a line is, or `None` if it doesn't begin with one to eight hexadecimal digits, a colon and a
-/// space, after any spaces.
+/// A text up to its first space, and what comes after that.
+fn first_word(text: &str) -> (&str, &str)
+    ensures word { result.0.now ≡ before_first (λ c. c == 32) text.now }
+    ensures rest { result.1.now ≡ after_first (λ c. c == 32) text.now }
+{
+    match text.split_once(' ') {
+        Some(parts) => parts,
+        None => (text, ""),
+    }
+}
+
+/// The number of one to eight hexadecimal digits, after which acpiview has a space. Its names of fields have more of
+/// them, also those that are spelled by such digits alone.
+#[tactic(auto, unfolding(crate::specs::DumpText::offset_of))]
+fn offset_in(text: &str) -> Option<u64>
+    ensures { result ≡ offset_of text.now }
+{
+    let (digits, rest) = first_word(text);
+    if !rest.is_empty() {
+        return None;
+    }
+    number_of(digits, 16, 8)
+}
+
+/// The row that a line is, or `None` if it doesn't begin with one to eight hexadecimal digits, a space or none, a colon
+/// and a space, after any spaces.
 #[tactic(auto, unfolding(crate::specs::DumpText::row_of))]
 pub(crate) fn row_in(line: &str) -> Option<Row<'_>>
     ensures { option_map (λ r. (r.offset, r.pairs.now)) result ≡ row_of line.now }
 {
     let (offset, pairs) = line.split_once(':')?;
-    let offset = number_of(offset.trim_start(), 16, 8)?;
+    let offset = offset_in(offset.trim_start())?;
     let pairs = pairs.strip_prefix(" ")?;
     Some(Row {
         offset,
@@ -68,6 +92,16 @@ fn first_pair(text: &[u8]) -> Option<(u8, &[u8])>
     }
 }
 
+/// The pairs of a row of which so many are left, less the dash that acpiview has before the last eight.
+fn without_dash(left: usize, text: &[u8]) -> &[u8]
+    ensures { result.now ≡ after_dash left text.now }
+{
+    match text {
+        [dash, gap, rest @ ..] if left == 8 && *dash == b'-' && *gap == b' ' => rest,
+        _ => text,
+    }
+}
+
 /// Adds the bytes that up to 16 pairs spell, up to a gap in place of one or the end of the text, and returns whether
 /// all of that are pairs.
 #[tactic(auto, using(crate::proofs::Reading::pairs_done, crate::proofs::Reading::pairs_gap, crate::proofs::Reading::pairs_wrong, crate::proofs::Reading::pairs_more))]
@@ -77,8 +111,8 @@ pub(crate) fn push_pairs(bytes: &mut Vec<u8>, text: &[u8]) -> Result<bool, Alloc
 {
     let mut rest = text;
     let mut left = 16usize;
-    while left > 0 && !ends(rest) {
-        let Some((byte, after)) = first_pair(rest) else {
+    while left > 0 && !ends(without_dash(left, rest)) {
+        let Some((byte, after)) = first_pair(without_dash(left, rest)) else {
             return Ok(false);
         };
         bytes.push(byte)?;

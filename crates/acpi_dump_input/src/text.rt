@@ -1,13 +1,15 @@
 //! The text of acpidump: for each table a heading, `FACP @ 0x00000000BFFE0000`, and rows of its bytes,
-//! `    0010: 42 4F 43 48 ..`, up to a blank line.
+//! `    0010: 42 4F 43 48 ..`, up to a blank line. And that of the UEFI shell's acpiview: for each table
+//! `Address  : 0xBFFE0000`, `Length   : 244`, a blank line, rows like `00000010 : 42 4F 43 48 .. - ..`, a blank line,
+//! and what it says of the fields.
 ghost use Rattle.std.specs.Prelude.{◌≡◌, ◌==◌, ◌<◌, ℕ, IfOk, Ok, Err, length};
 ghost use Rattle.acpi_base.specs.FromStd.{after_first, before_first};
-ghost use Rattle.acpi_dump_input.specs.DumpText.{heading_of, tables_of};
+ghost use Rattle.acpi_dump_input.specs.DumpText.{after_label as label_after, heading_of, length_of, tables_of};
 ghost use Rattle.acpi_dump_input.specs.declared.text.TextError.TheVariants.{Line};
 ghost use Rattle.acpi_dump_input.specs.Held.{tables_in as spelled_in};
 
 use crate::row::{Row, push_pairs, row_in};
-use acpi_cli::parse_address;
+use acpi_cli::{number_of, parse_address};
 use std::alloc::{AllocError, Global};
 
 /// A table that a text spells.
@@ -46,6 +48,8 @@ pub struct Reading {
     whole: Vec<SpelledTable>,
     /// The one whose rows are read.
     current: Option<SpelledTable>,
+    /// How many bytes the text says that it has.
+    said: Option<u64>,
 }
 
 /// The first line of a text without its line feed, and what comes after that.
@@ -61,12 +65,13 @@ pub(crate) fn first_line(text: &str) -> (&str, &str)
     }
 }
 
-/// The address in a line if it is a heading: after an `@`, `0x` and one to sixteen hexadecimal digits.
+/// The address in a line if it is a heading: after acpiview's label or an `@`, `0x` and one to sixteen hexadecimal
+/// digits.
 #[tactic(auto, unfolding(crate::specs::DumpText::heading_of))]
 pub(crate) fn heading_in(line: &str) -> Option<u64>
     ensures { result ≡ heading_of line.now }
 {
-    parse_address(after_at(line).trim())
+    parse_address(after_label(line).trim())
 }
 
 /// What comes after the first `@` of a line, or nothing if it has none.
@@ -79,18 +84,37 @@ fn after_at(line: &str) -> &str
     }
 }
 
+/// What comes after acpiview's label of an address, or else after the first `@`.
+fn after_label(line: &str) -> &str
+    ensures { result.now ≡ label_after line.now }
+{
+    match line.strip_prefix("Address  : ") {
+        Some(after) => after,
+        None => after_at(line),
+    }
+}
+
+/// How many bytes a line of acpiview says that its table has.
+#[tactic(auto, unfolding(crate::specs::DumpText::length_of))]
+fn length_in(line: &str) -> Option<u64>
+    ensures { result ≡ length_of line.now }
+{
+    number_of(line.strip_prefix("Length   : ")?.trim(), 10, 10)
+}
+
 impl Reading {
     ghost use Rattle.std.specs.Prelude.{◌≡◌, [], None, Some, IfOk, option_map};
-    ghost use Rattle.acpi_dump_input.specs.DumpText.{all_of, opened, with_line, with_row};
+    ghost use Rattle.acpi_dump_input.specs.DumpText.{all_of, closed, held, opened, with_blank, with_length, with_line, with_row};
     ghost use Rattle.acpi_dump_input.specs.Held.{reading_of, tables_in};
 
     /// No table.
     fn none(alloc: Global) -> Reading
-        ensures { reading_of result ≡ record { whole = []; current = None } }
+        ensures { reading_of result ≡ record { whole = []; current = None; said = None } }
     {
         Reading {
             whole: Vec::new(alloc),
             current: None,
+            said: None,
         }
     }
 
@@ -98,7 +122,11 @@ impl Reading {
     fn all(self) -> Result<Vec<SpelledTable>, AllocError>
         ensures { IfOk result (λ v. tables_in v.items ≡ all_of (reading_of self)) }
     {
-        let Reading { mut whole, current } = self;
+        let Reading {
+            mut whole,
+            current,
+            ..
+        } = self;
         if let Some(table) = current {
             whole.push(table)?;
         }
@@ -107,13 +135,23 @@ impl Reading {
 
     /// These tables, all of them whole.
     fn closed(self) -> Result<Reading, AllocError>
-        ensures { IfOk result (λ r. reading_of r
-            ≡ record { whole = all_of (reading_of self); current = None }) }
+        ensures { IfOk result (λ r. reading_of r ≡ closed (reading_of self)) }
     {
         Ok(Reading {
             whole: self.all()?,
             current: None,
+            said: None,
         })
+    }
+
+    /// How many bytes the table has so far whose rows are read.
+    fn held(&self) -> Option<u64>
+        ensures { result ≡ held (reading_of self.now) }
+    {
+        match &self.current {
+            Some(table) => Some(table.bytes.len() as u64),
+            None => None,
+        }
     }
 
     /// These tables, and one more of which no row was read.
@@ -128,6 +166,7 @@ impl Reading {
         Ok(Reading {
             whole,
             current: Some(table),
+            said: None,
         })
     }
 
@@ -137,7 +176,11 @@ impl Reading {
         ensures { IfOk result (λ o. option_map reading_of o
             ≡ with_row (reading_of self) (row.entry.offset, row.entry.pairs.now)) }
     {
-        let Reading { whole, current } = self;
+        let Reading {
+            whole,
+            current,
+            said,
+        } = self;
         let Some(table) = current else {
             return Ok(None);
         };
@@ -151,7 +194,42 @@ impl Reading {
         Ok(Some(Reading {
             whole,
             current: Some(SpelledTable { address, bytes }),
+            said,
         }))
+    }
+
+    /// These tables after a blank line, or `None` if it is wrong: if the table that it would end has more or fewer
+    /// bytes than it is said to have. It ends none that is said to have some before the first of them.
+    #[tactic(auto, unfolding(crate::specs::DumpText::with_blank))]
+    fn with_blank(self) -> Result<Option<Reading>, AllocError>
+        ensures { IfOk result (λ o. option_map reading_of o ≡ with_blank (reading_of self)) }
+    {
+        let (Some(held), Some(said)) = (self.held(), self.said) else {
+            return Ok(Some(self.closed()?));
+        };
+        if said == held {
+            return Ok(Some(self.closed()?));
+        }
+        Ok(if held == 0 { Some(self) } else { None })
+    }
+
+    /// These tables after a line that says how many bytes the current one has, or `None` if that has rows by now.
+    #[tactic(auto, unfolding(crate::specs::DumpText::with_length))]
+    fn with_length(self, said: u64) -> Option<Reading>
+        ensures { option_map reading_of result ≡ with_length (reading_of self) said }
+    {
+        let Some(held) = self.held() else {
+            return Some(self);
+        };
+        if held > 0 {
+            return None;
+        }
+        let Reading { whole, current, .. } = self;
+        Some(Reading {
+            whole,
+            current,
+            said: Some(said),
+        })
     }
 
     /// These tables with one more line, or `None` if it is wrong.
@@ -167,7 +245,10 @@ impl Reading {
             return Ok(Some(self.opened(alloc, address)?));
         }
         if line.trim().is_empty() {
-            return Ok(Some(self.closed()?));
+            return self.with_blank();
+        }
+        if let Some(said) = length_in(line) {
+            return Ok(self.with_length(said));
         }
         if self.current.is_some() {
             return Ok(None);
@@ -180,8 +261,9 @@ impl Reading {
 /// passed over.
 ///
 /// Fails with `Line` at the first line that is wrong: a row outside a table, or in a table a row whose offset
-/// isn't the number of the bytes before it or whose pairs can't be read, or a line that is neither row, heading nor
-/// blank. The error is `OutOfMemory` if memory runs out.
+/// isn't the number of the bytes before it or whose pairs can't be read, a length after a row, a blank line after
+/// more or fewer bytes than the length says, or a line that is none of these and no heading. The error is
+/// `OutOfMemory` if memory runs out.
 #[tactic(auto, using(crate::proofs::Reading::lines_end, crate::proofs::Reading::lines_wrong, crate::proofs::Reading::lines_more, crate::proofs::Reading::after_shorter))]
 pub(crate) fn tables_in(alloc: Global, text: &str) -> Result<Vec<SpelledTable>, TextError>
     ensures spelled { IfOk result (λ v. tables_of text.now ≡ Ok (spelled_in v.items)) }
@@ -208,18 +290,27 @@ pub(crate) fn why_wrong(
     text: &str,
     number: usize,
 ) -> Result<&'static str, AllocError> {
-    let mut is_inside = false; // whether a heading was before it, and no blank line after that
+    let mut is_inside = false; // whether a heading was before it, and no blank line that ends its table
+    let mut is_said = false; // whether the last line that isn't blank says how many bytes it has
     for (before, line) in text.split('\n').enumerate() {
         if before + 1 == number {
             return reason_of(alloc, line, is_inside);
         }
-        is_inside = heading_in(line).is_some() || is_inside && !line.trim().is_empty();
+        if line.trim().is_empty() {
+            is_inside = is_inside && is_said;
+        } else {
+            is_inside = is_inside || heading_in(line).is_some();
+            is_said = length_in(line).is_some();
+        }
     }
     Ok("it isn't there")
 }
 
 /// What is wrong with a line inside a table or outside of one.
 fn reason_of(alloc: Global, line: &str, is_inside: bool) -> Result<&'static str, AllocError> {
+    if line.trim().is_empty() {
+        return Ok("the table before it doesn't have as many bytes as its length says");
+    }
     let Some(row) = row_in(line) else {
         return Ok("neither a heading, nor a row of bytes, nor blank");
     };

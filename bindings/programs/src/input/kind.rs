@@ -15,7 +15,7 @@ pub enum Kind {
     Image,
     /// Memory as it is.
     Memory,
-    /// The text of acpidump.
+    /// The text of acpidump or acpiview.
     Text,
     /// One table.
     Table,

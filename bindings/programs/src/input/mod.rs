@@ -2,8 +2,8 @@
 //! Inputs: what the program is pointed at, as memory or as tables, the tables that it has with what their checks say,
 //! and how these are saved as files.
 //!
-//! Every function returns for every input, without fault. The tables of acpidump's text are exact by a definition, and
-//! what is saved is the bytes that are given, in the folder or under the name that is given.
+//! Every function returns for every input, without fault. The tables of acpidump's and acpiview's text are exact by
+//! a definition, and what is saved is the bytes that are given, in the folder or under the name that is given.
 
 #![forbid(unsafe_code)]
 // What contracts alone use.

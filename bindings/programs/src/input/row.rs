@@ -1,5 +1,5 @@
 // Made by scripts/erase of crates/acpi_dump_input/src/row.rt, where it is proved.
-//! A row of a table in the text of acpidump: its offset, a colon, and up to 16 pairs of hexadecimal digits.
+//! A row of a table in the text of acpidump or acpiview: its offset, a colon, and up to 16 pairs of hexadecimal digits.
 
 use crate::cli::number_of;
 use crate::rattle::Pieces;
@@ -15,11 +15,29 @@ pub(crate) struct Row<'t> {
     pub(crate) pairs: &'t [u8],
 }
 
-/// The row that a line is, or `None` if it doesn't begin with one to eight hexadecimal digits, a colon and a
-/// space, after any spaces.
+/// A text up to its first space, and what comes after that.
+fn first_word(text: &str) -> (&str, &str) {
+    match text.two_pieces(' ') {
+        Some(parts) => parts,
+        None => (text, ""),
+    }
+}
+
+/// The number of one to eight hexadecimal digits, after which acpiview has a space. Its names of fields have more of
+/// them, also those that are spelled by such digits alone.
+fn offset_in(text: &str) -> Option<u64> {
+    let (digits, rest) = first_word(text);
+    if !rest.is_empty() {
+        return None;
+    }
+    number_of(digits, 16, 8)
+}
+
+/// The row that a line is, or `None` if it doesn't begin with one to eight hexadecimal digits, a space or none, a colon
+/// and a space, after any spaces.
 pub(crate) fn row_in(line: &str) -> Option<Row<'_>> {
     let (offset, pairs) = line.two_pieces(':')?;
-    let offset = number_of(offset.trim_start(), 16, 8)?;
+    let offset = offset_in(offset.trim_start())?;
     let pairs = pairs.strip_prefix(" ")?;
     Some(Row { offset, pairs: pairs.as_bytes() })
 }
@@ -53,13 +71,21 @@ fn first_pair(text: &[u8]) -> Option<(u8, &[u8])> {
     }
 }
 
+/// The pairs of a row of which so many are left, less the dash that acpiview has before the last eight.
+fn without_dash(left: usize, text: &[u8]) -> &[u8] {
+    match text {
+        [dash, gap, rest @ ..] if left == 8 && *dash == b'-' && *gap == b' ' => rest,
+        _ => text,
+    }
+}
+
 /// Adds the bytes that up to 16 pairs spell, up to a gap in place of one or the end of the text, and returns whether
 /// all of that are pairs.
 pub(crate) fn push_pairs(bytes: &mut Vec<u8>, text: &[u8]) -> Result<bool, AllocError> {
     let mut rest = text;
     let mut left = 16usize;
-    while left > 0 && !ends(rest) {
-        let Some((byte, after)) = first_pair(rest) else {
+    while left > 0 && !ends(without_dash(left, rest)) {
+        let Some((byte, after)) = first_pair(without_dash(left, rest)) else {
             return Ok(false);
         };
         bytes.push(byte)?;
