@@ -73,8 +73,8 @@ fn inputs<'a>(alloc: Global) -> Arg<'a> {
     Arg::new(alloc, "input")
         .value_name("INPUT")
         .help(
-            "Files of tables, a folder of them, acpidump's text, an image of acpi_pack, raw memory, or - for \
-             standard input; without one the machine's own tables",
+            "Files of tables, a folder of them, acpidump's or acpiview's text, an image of acpi_pack, raw memory, or \
+             - for standard input; without one the machine's own tables",
         )
         .action(ArgAction::Append)
 }
