@@ -1,4 +1,5 @@
-//! Images that are written. `data/images.rows` of `acpi_rows` has more, and why others are not.
+//! Images that are written. `acpi_rows` has the bytes of more, and why others are not (`data/images.rows`), and what is
+//! read in them (`data/runs.rows`).
 
 mod heaps;
 
@@ -40,26 +41,8 @@ type Row = (
 );
 
 #[rattlefmt::skip]
-static WRITTEN: [Row; 5] = [
-    ("an RSDT", (0, 0x2000, 1), 180, &[
-        (0, &[0, 5, 0, 0, 0, 0, 0, 0, 36, 0, 0, 0, 0, 0, 0, 0]),
-        (16, b"RSD PTR \x11      \x00\x00\x10\x00\x00"),
-        (36, &[0, 0, 0, 0, 0, 0, 0, 0, 0, 0, 0, 0, 0, 0, 0, 0]),
-        (52, &[0, 0x10, 0, 0, 0, 0, 0, 0, 40, 0, 0, 0, 0, 0, 0, 0]),
-        (68, b"RSDT\x28\x00\x00\x00\x01\xBA              "),
-        (92, &[0, 0, 0, 0, 0, 0, 0, 0, 0, 0, 0, 0, 0, 0x20, 0, 0]),
-        (108, &[0, 0x20, 0, 0, 0, 0, 0, 0, 56, 0, 0, 0, 0, 0, 0, 0]),
-        (124, &[b'B', b'G', b'R', b'T', 56, 0, 0, 0, 0, 0x93]),
-        (134, &[0, 0, 0, 0, 0, 0, 0, 0, 0, 0, 0, 0, 0]),
-        (147, &[0, 0, 0, 0, 0, 0, 0, 0, 0, 0, 0, 0, 0, 1, 0, 5]),
-        (163, &[0, 0, 0, 0, 0, 0, 0, 0, 0, 0, 0, 0, 0, 0, 0, 0, 0])], Ok((0, 1, 0x2000, 180))),
-    ("an XSDT", (2, 0x2000, 1), 184, &[
-        (16, b"RSD PTR \x1F      \x02\x00\x00\x00\x00"),
-        (36, &[36, 0, 0, 0, 0, 0x10, 0, 0, 0, 0, 0, 0, 0xCC, 0, 0, 0]),
-        (68, b"XSDT\x2C\x00\x00\x00\x01\xB0              "),
-        (104, &[0, 0x20, 0, 0, 0, 0, 0, 0])], Ok((2, 1, 0x2000, 180))),
-    ("no tables", (0, 0x2000, 0), 104, &[(68, b"RSDT\x24\x00\x00\x00\x01\xDE")],
-        Err(AcpiError::TableMissing(Signature::BGRT))),
+static WRITTEN: [Row; 3] = [
+    ("no tables", (0, 0x2000, 0), 104, &[], Err(AcpiError::TableMissing(Signature::BGRT))),
     // The bytes of the pointers 0x10000, 0x11000 and so on up to 0x4bf000 sum to 160: 16 of them
     // in a row sum to 240 times 8 and 16 times one of 1 to 75.
     ("1,200 tables in an RSDT", (0, 0x1_0000, 1200), 91304, &[
