@@ -1,7 +1,7 @@
 //! The style of a page.
 
 /// The SHA-256 of the style, in base64, which scripts/check/html compares with it.
-pub(super) const STYLE_HASH: &str = "5Pb7pLKRMNKMtAJvJWbF68nqVPuanuBhF2oLR85dFG8=";
+pub(super) const STYLE_HASH: &str = "vm0eOw1ZSM1/mqXM5/mLGoDhJBG9JHxkOXNffq7d2DM=";
 
 /// The style: the colours stand at its front, and are other ones in the dark.
 pub(super) const STYLE: &str = r#"
@@ -58,8 +58,9 @@ margin-left:.4rem}
 gap:.2rem .8rem;align-items:baseline;padding:.42rem 0;border-top:1px solid var(--line)}.finds a{
 font:13px var(--mono)}.finds small{color:var(--dim);text-align:right}
 .sev,.ok,.bad,.warn,.same,.diff{font:600 12px/1.5 var(--sans);padding:.08rem .5rem;border-radius:99px;
-white-space:nowrap}.bad{white-space:normal;border-radius:8px}.list td:nth-child(3){white-space:normal;
-min-width:9rem}nav a.warn,nav a.bad{font:13px/1.6 var(--mono);border-radius:6px}
+white-space:nowrap}.bad{white-space:normal;border-radius:8px}.list td:is(:nth-child(2),:nth-child(3)){
+white-space:normal;min-width:9rem}.list td:nth-child(4) code{white-space:normal;overflow-wrap:anywhere}
+.list td:nth-child(4){min-width:7.5rem}nav a.warn,nav a.bad{font:13px/1.6 var(--mono);border-radius:6px}
 .ok{background:var(--okbg);color:var(--ok)}.ok:before{content:"✓ "}.bad,.error .sev{background:var(--badbg);
 color:var(--bad)}.bad:before{content:"✗ "}.warn,.diff,.warning .sev{background:var(--warnbg);color:var(--warn)}
 .same,.note .sev{background:var(--soft);color:var(--dim)}.sev{justify-self:start}
@@ -70,7 +71,8 @@ border:1px solid var(--line);border-radius:6px;padding:.25rem .7rem;cursor:point
 .scroll{overflow-x:auto;background:var(--card);border:1px solid var(--line);border-radius:10px}table{
 border-collapse:collapse;width:100%}
 .list th,.list td{padding:.38rem .8rem;text-align:left;white-space:nowrap;border-top:1px solid var(--line)}
-.list thead th{border:0;font-size:.8rem;color:var(--dim);font-weight:600}.list td .bad{display:inline-block}
+.list thead th{border:0;white-space:normal;vertical-align:bottom;font-size:.8rem;color:var(--dim);
+font-weight:600}.list td .bad{display:inline-block}
 .list .num{text-align:right;font-variant-numeric:tabular-nums}.list tbody th{font:600 14px var(--mono)}
 code,pre{font:13px/1.5 var(--mono);white-space:pre}
 .t{contain:layout style;margin-top:1rem;background:var(--card);border:1px solid var(--line);border-radius:10px}
@@ -133,7 +135,8 @@ border-bottom:1px solid var(--soft)}.fl tr>:nth-child(n){width:auto;border:0;pad
 .fl tr>:nth-child(n),.fl a{font-size:12px}.fl tr>th:nth-child(n){font-size:13px}.fl thead,.fl tr>td:empty{
 display:none}.fl tr>td:nth-child(4){grid-column:2/-1;padding-top:0}.fl tr>td:nth-child(3){text-align:right;
 overflow-wrap:anywhere;max-width:52vw}.finding>td:nth-child(2){grid-column:1/-1!important}.list th,.list td{
-padding:.38rem .5rem}.bs pre{font-size:11px;padding:.4rem}.th,.two{padding-left:.7rem;padding-right:.7rem}.bs{
+padding:.38rem .5rem}.list td:nth-child(4){min-width:6rem}.bs pre{font-size:11px;padding:.4rem}.th,.two{
+padding-left:.7rem;padding-right:.7rem}.bs{
 margin:0 -.7rem;padding:0 .7rem .5rem}}
 @media print{:root{color-scheme:light}body{background:#fff;font-size:11px}nav,.skip,.tools,.o,footer,#changed,
 #changed+label{display:none}.t,.tile>div,.scroll,.card{border-color:#bbb}.tile,.card,tr{break-inside:avoid}.fl,
