@@ -18,6 +18,7 @@ mod sheet;
 mod style;
 mod table;
 mod tile;
+mod values;
 
 use acpi_dump_compare::compare::{differences, same_in};
 use acpi_dump_compare::outline::{Items, Side, items_of};

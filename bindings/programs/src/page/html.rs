@@ -19,6 +19,7 @@ mod sheet;
 mod style;
 mod table;
 mod tile;
+mod values;
 
 use crate::compare::compare::{differences, same_in};
 use crate::compare::outline::{Items, Side, items_of};

@@ -1,13 +1,14 @@
 //! The fields of a table: a row for each, in folds by the structures that they are in.
 
-use super::escape::Piece::{Bytes, Decimal, Digits, Hex, Id, Name, Offset, Text, Value, Words};
-use super::escape::{Piece, print_html, word_if};
+use super::escape::Piece::{Bytes, Decimal, Digits, Hex, Id, Name, Offset, Text, Value};
+use super::escape::{print_html, word_if};
 use super::findings::print_findings_of;
 use super::ids;
 use super::marks::{Change, Mark};
 use super::sheet::{Sheet, Standing};
+use super::values::{print_change, print_digest, print_reference, print_value, structure_of};
 use acpi::sdt::SdtHeader;
-use acpi_dump_compare::outline::{BYTES, Item, MALFORMED, Part, Side};
+use acpi_dump_compare::outline::{BYTES, Item, MALFORMED, Part};
 use acpi_dump_input::entries::header_of;
 use acpi_dump_walk::language::number_at;
 use acpi_dump_walk::out::Out;
@@ -17,9 +18,6 @@ const MANY: usize = 9;
 
 /// Up to how many fields and objects the structures of a table begin unfolded.
 const FEW: usize = 48;
-
-/// From how many letters on a meaning is in a box of a few lines.
-const LONG: usize = 240;
 
 /// The length of a header (ACPI 6.5, section 5.2.6).
 const HEADER: u64 = 36;
@@ -231,6 +229,9 @@ impl Rows<'_, '_, '_> {
             self.out.words(words, &[length])
         } else if let Some((old, was)) = sheet.before(mark) {
             print_change(old, was, sheet.side, item, self.out)
+        } else if let Some(part) = structure_of(sheet.signature, sheet.side, item) {
+            let link = sheet.link(part.offset);
+            print_reference(sheet.side, item, &part, link, self.out)
         } else {
             let target = self.target_of(item);
             print_value(sheet.side, item, target, self.out)
@@ -339,73 +340,4 @@ impl Rows<'_, '_, '_> {
         }
         self.end();
     }
-}
-
-/// Prints the name, the value and the meaning of a field. The value leads to a table if it is the address of one.
-fn print_value(side: Side<'_>, item: &Item, target: Option<ids::Id>, out: &mut Out) {
-    print_html("<th scope=\"row\">$<td>", &[Name(item)], out);
-    let value = Value(side.digits(item));
-    match target {
-        Some(table) => print_html("<a href=\"#$\">$</a>", &[Id(table, None), value], out),
-        None => print_html("$", &[value], out),
-    }
-    let meaning = side.meaning(item);
-    let cell = if meaning.len() > LONG {
-        "<td><div>$</div>\n"
-    } else {
-        "<td>$\n"
-    };
-    print_html(cell, &[Text(meaning)], out)
-}
-
-/// Prints the name, the value and the meaning of a field, each with what the first input has, if that differs.
-fn print_change(old: Side<'_>, was: &Item, side: Side<'_>, item: &Item, out: &mut Out) {
-    let (old_digits, digits) = (old.digits(was), side.digits(item));
-    let (meant, meaning) = (old.meaning(was), side.meaning(item));
-    let (is_value, is_meaning) = (old_digits == digits, meant == meaning);
-    print_html("<th scope=\"row\">$<td>", &[Name(item)], out);
-    print_changed(Value(old_digits), Value(digits), is_value, out);
-    out.text("<td><div>");
-    print_changed(Text(meant), Text(meaning), is_meaning, out);
-    let is_hidden = is_value && is_meaning;
-    out.text(if is_hidden {
-        " other bytes</div>\n"
-    } else {
-        "</div>\n"
-    })
-}
-
-/// Prints a text, after the one of the first input unless it is the same.
-fn print_changed(was: Piece<'_>, is: Piece<'_>, is_same: bool, out: &mut Out) {
-    if is_same {
-        print_html("$", &[is], out)
-    } else {
-        print_html("<del>$</del> <ins>$</ins>", &[was, is], out)
-    }
-}
-
-/// Prints the first fields that tell of a folded structure what it is, or the path of an object.
-pub(super) fn print_digest(side: Side<'_>, number: usize, part: &Part, out: &mut Out) {
-    let mut count = 0usize;
-    for item in side.items_in(number) {
-        if item.part == number && tells(item) && count < 4 {
-            let meaning = side.meaning(item);
-            let value = if meaning.is_empty() || part.own.is_some() {
-                Value(side.digits(item))
-            } else {
-                Words(meaning, 48)
-            };
-            let name = if part.own.is_some() { "" } else { item.name };
-            let pieces = [word_if(count > 0, ", "), Text(name), value];
-            print_html("$$ $", &pieces, out);
-            count = count.saturating_add(1);
-        }
-    }
-}
-
-/// Whether a field tells of a structure what it is.
-fn tells(item: &Item) -> bool {
-    let is_front = item.within < 5 && matches!(item.name, "Type" | "Length" | "Revision");
-    let is_left_out = item.name == BYTES || item.name == MALFORMED;
-    !is_front && !is_left_out && !item.name.starts_with("Reserved")
 }
