@@ -942,9 +942,9 @@ ZACPI_STATUS zacpi_get_interrupt_model(const struct zacpi_source *source,
                                        struct zacpi_interrupt_model *out,
                                        struct zacpi_signature *signature);
 
-/* Returns the address of each processor's local APIC by only the MADT, whatever is wrong with other
- * entries: the address that zacpi_get_interrupt_model returns, if it returns one. Fails with an
- * opening error, or ZACPI_TABLE_MISSING "APIC". */
+/* Returns the address of each processor's local APIC from only the MADT, whatever is wrong with
+ * other entries: the address that zacpi_get_interrupt_model returns, if it returns one. Fails with
+ * an opening error, or ZACPI_TABLE_MISSING "APIC". */
 ZACPI_STATUS zacpi_get_local_apic(const struct zacpi_source *source, struct zacpi_local_apic *out,
                                   struct zacpi_signature *signature);
 

@@ -271,7 +271,7 @@ struct zacpi_machine {
 /* Writes all tables of a machine, for memory from `address` on: the RSDP, after 48 bytes the XSDT,
  * the DSDT, 128 bytes with the FACS at their first multiple of 64, and the listed tables in order,
  * each table at a multiple of 16 and filled up with zeros to the next. Fails with ZACPI_BAD_TABLE
- * if a listed one has fewer than 36 bytes, another Length than bytes, or a sum that isn't 0,
+ * if a listed one has fewer than 36 bytes, a Length that isn't their number, or a sum that isn't 0,
  * ZACPI_BAD_NAME, ZACPI_TOO_LONG of the XSDT, ZACPI_HAS_HEADER of the DSDT, ZACPI_TOO_LONG,
  * ZACPI_NO_ROOM, or ZACPI_NO_ADDRESS if `address` is 0 or no multiple of 16, or the memory ends at
  * 2^64 or above. */

@@ -29,7 +29,7 @@ pub extern "C" fn zacpi_1_get_interrupt_model(
     answer(model(source), out, named)
 }
 
-/// Returns the address of each processor's local APIC by only the MADT, whatever is wrong with other entries: the
+/// Returns the address of each processor's local APIC from only the MADT, whatever is wrong with other entries: the
 /// address that zacpi_get_interrupt_model returns, if it returns one.
 #[unsafe(no_mangle)]
 pub extern "C" fn zacpi_1_get_local_apic(
