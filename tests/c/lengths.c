@@ -1,7 +1,7 @@
-/* Tables of 2^32 bytes that a call only finds too long once it has looked at each item: lists that lie in memory as one
- * page, again and again. Prints how many tables were tried; the status is 0 if each is ZACPI_TOO_LONG, and nothing is
- * written. It takes seconds, so it is run once, by no emulator. Skipped where an address has 32 bits, or there isn't so
- * much address space. cc -std=c99 -Iinclude tests/c/lengths.c ARCHIVE */
+/* Tables of 2^32 bytes, or a little more, that a call only finds too long once it has looked at each item: lists that
+ * lie in memory as one page, again and again. Prints how many tables were tried; the status is 0 if each is
+ * ZACPI_TOO_LONG, and nothing is written. It takes seconds, so it is run once, by no emulator. Skipped where an address
+ * has 32 bits, or there isn't so much address space. cc -std=c99 -Iinclude tests/c/lengths.c ARCHIVE */
 #define _GNU_SOURCE
 #include "edges.h"
 #include <unistd.h>
@@ -32,20 +32,29 @@ static void *repeated(const void *record, size_t size, uint64_t length) {
     return base;
 }
 
-/* GICC Affinities have 18 bytes each, after 48. */
-static zacpi_status long_srat(uint8_t *to, size_t capacity, size_t *length) {
+/* GICC Affinities have 18 bytes each, after 48 and these Memory Affinities of 40 bytes. */
+static zacpi_status srat_of(size_t memory, size_t giccs, uint8_t *to, size_t capacity, size_t *length) {
     static const struct zacpi_gicc_domain domain = {1, 2};
-    struct zacpi_srat_contents given = {NULL, 0, NULL, 0, NULL, 0};
-    given.giccs_length = (FOUR_GIB - 48 + 17) / 18;
-    given.giccs = repeated(&domain, sizeof domain, given.giccs_length * sizeof domain);
+    static const struct zacpi_memory_affinity ranges[7] = {{0, 1, 0, 0, 0}, {0, 1, 0, 0, 0}, {0, 1, 0, 0, 0},
+                                                           {0, 1, 0, 0, 0}, {0, 1, 0, 0, 0}, {0, 1, 0, 0, 0},
+                                                           {0, 1, 0, 0, 0}};
+    const struct zacpi_srat_contents given = {NULL,  0,      repeated(&domain, sizeof domain, giccs * sizeof domain),
+                                              giccs, ranges, memory};
     return zacpi_write_srat(&ids, &given, to, capacity, length);
 }
-/* A GT Block of 1637 frames has 20 bytes and 40 for each frame, after 104. */
-static zacpi_status long_gtdt(uint8_t *to, size_t capacity, size_t *length) {
-    enum { FRAMES = 1637, BLOCK = 20 + 40 * FRAMES };
+static zacpi_status long_srat(uint8_t *to, size_t capacity, size_t *length) {
+    return srat_of(0, (size_t)((FOUR_GIB - 48 + 17) / 18), to, capacity, length);
+}
+static zacpi_status exact_srat(uint8_t *to, size_t capacity, size_t *length) {
+    return srat_of(7, (size_t)((FOUR_GIB - 48 - 7 * 40) / 18), to, capacity, length);
+}
+
+/* A GT Block of 1637 frames has 20 bytes and 40 for each frame, after 104; a watchdog has 28. */
+enum { FRAMES = 1637, BLOCK = 20 + 40 * FRAMES };
+static zacpi_status gtdt_of(const size_t counts[3], uint8_t *to, size_t capacity, size_t *length) {
     static struct zacpi_gt_frame frames[FRAMES];
     const struct zacpi_arm_timer timer = {29, ZACPI_POLARITY_LOW, ZACPI_TRIGGER_LEVEL, 0, 1};
-    const size_t count = (FOUR_GIB - 104 + BLOCK - 1) / BLOCK;
+    const size_t count = counts[0] + counts[1] + counts[2]; /* long blocks, those of two frames, and watchdogs */
     struct zacpi_platform_timer *blocks = calloc(count, sizeof *blocks);
     struct zacpi_gtdt_contents given;
     zacpi_status got;
@@ -57,12 +66,26 @@ static zacpi_status long_gtdt(uint8_t *to, size_t capacity, size_t *length) {
         frames[i].physical_trigger = frames[i].virtual_trigger = ZACPI_TRIGGER_LEVEL;
     }
     if (!blocks) skipped();
-    for (i = 0; i < count; i++) blocks[i].frames = frames, blocks[i].frames_length = FRAMES;
+    for (i = 0; i < count; i++) {
+        blocks[i].frames = frames, blocks[i].frames_length = i < counts[0] ? FRAMES : 2;
+        blocks[i].kind = i >= counts[0] + counts[1];
+        blocks[i].watchdog.polarity = ZACPI_POLARITY_LOW, blocks[i].watchdog.trigger = ZACPI_TRIGGER_LEVEL;
+    }
     given.platform_timers = blocks, given.platform_timers_length = count;
     got = zacpi_write_gtdt(&ids, &given, to, capacity, length);
     free(blocks);
     return got;
 }
+static zacpi_status long_gtdt(uint8_t *to, size_t capacity, size_t *length) {
+    const size_t counts[3] = {(size_t)((FOUR_GIB - 104 + BLOCK - 1) / BLOCK), 0, 0};
+    return gtdt_of(counts, to, capacity, length);
+}
+/* 104 + 65572 * 65500 + 100 + 39 * 28 */
+static zacpi_status exact_gtdt(uint8_t *to, size_t capacity, size_t *length) {
+    static const size_t counts[3] = {65572, 1, 39};
+    return gtdt_of(counts, to, capacity, length);
+}
+
 /* An XSDT lists 0x1ffffffb tables at most (36 bytes, and 8 for each). */
 static zacpi_status long_xsdt(uint8_t *to, size_t capacity, size_t *length) {
     static const uint8_t oem[36] = {'O', 'E', 'M', '9', 36, 0, 0, 0, 1, 0xc1};
@@ -74,8 +97,8 @@ static zacpi_status long_xsdt(uint8_t *to, size_t capacity, size_t *length) {
 }
 
 int main(void) {
-    static zacpi_status (*const all[])(uint8_t * to, size_t capacity, size_t * length) = {long_srat, long_gtdt,
-                                                                                          long_xsdt};
+    static zacpi_status (*const all[])(uint8_t * to, size_t capacity,
+                                       size_t * length) = {long_srat, exact_srat, long_gtdt, exact_gtdt, long_xsdt};
     uint8_t *to = sizeof to < 8 ? NULL
                                 : mmap(NULL, (size_t)(FOUR_GIB + CHUNK), PROT_NONE,
                                        MAP_PRIVATE | MAP_ANONYMOUS | MAP_NORESERVE, -1, 0);

@@ -1,5 +1,5 @@
 /* More blocks of AML for zacpi_get_sleep_types, worked out by hand from section 20.2: names, texts, blocks and
- * arguments that the AML ends in, and terms whose parts are names of several segments. For rows_sleep.h. */
+ * arguments that the AML ends in, terms whose parts are names of several segments, and objects. For rows_sleep.h. */
 #ifndef ROWS_AML_H
 #define ROWS_AML_H
 
@@ -40,6 +40,44 @@ AML(aml_alias_of_two, 6, FOO, 0x2e, FOO, BAR, S5_OF_7_6);
 AML(aml_alias_of_up, 6, FOO, '^', '_', 'S', '5', '_', S5_OF_7_6);
 /* Name(FOO_, FOO_.BAR_), with one argument, and a name of one segment after the prefix of many, with none. */
 AML(aml_called, 8, FOO, 0x2e, FOO, BAR, 8, FOO, 0x2f, 1, BAR, S5_OF_7_6);
+
+/* Each form of an object, which defines no state: Alias, Name of each kind of data, Scope, Method, External, fields of
+ * a buffer, Mutex, Event, regions, Field, Device, Processor, PowerResource, ThermalZone, IndexField, BankField. */
+AML(object_alias, 6, FOO, BAR);
+AML(object_zero, 8, FOO, 0);
+AML(object_byte, 8, FOO, 10, 7);
+AML(object_word, 8, FOO, 11, 7, 6);
+AML(object_dword, 8, FOO, 12, 7, 6, 5, 4);
+AML(object_qword, 8, FOO, 14, 7, 6, 5, 4, 3, 2, 1, 0);
+AML(object_text, 8, FOO, 13, 'A', 'B', 0);
+AML(object_buffer, 8, FOO, 0x11, 4, 10, 1, 7);
+AML(object_package, 8, FOO, 0x12, 4, 1, 10, 7);
+AML(object_of_packages, 8, FOO, 0x13, 5, 10, 1, 10, 7);
+AML(object_scope, 0x10, 5, BAR);
+AML(object_method, 0x14, 6, FOO, 0);
+AML(object_external, 0x15, FOO, 8, 0);
+AML(object_dword_field, 0x8a, FOO, 10, 4, BAR);
+AML(object_field_of_bits, 0x5b, 0x13, FOO, 10, 4, 10, 2, BAR);
+AML(object_mutex, 0x5b, 1, FOO, 7);
+AML(object_event, 0x5b, 2, FOO);
+AML(object_region, 0x5b, 0x80, FOO, 1, 10, 4, 10, 2);
+AML(object_field, 0x5b, 0x81, 12, FOO, 1, 'B', 'A', 'R', '_', 8, 0);
+AML(object_device, 0x5b, 0x82, 5, FOO);
+AML(object_processor, 0x5b, 0x83, 11, FOO, 1, 16, 4, 0, 0, 6);
+AML(object_power, 0x5b, 0x84, 8, FOO, 0, 0, 0);
+AML(object_zone, 0x5b, 0x85, 5, FOO);
+AML(object_index, 0x5b, 0x86, 10, FOO, BAR, 1);
+AML(object_bank, 0x5b, 0x87, 12, FOO, BAR, 10, 2, 1);
+AML(object_data_region, 0x5b, 0x88, FOO, 13, 'A', 0, 13, 'B', 0, 13, 'C', 0);
+#define OBJECT(name) {object_##name, sizeof object_##name}
+static const struct {
+    const uint8_t *aml;
+    size_t length;
+} objects[] = {OBJECT(alias), OBJECT(zero), OBJECT(byte), OBJECT(word), OBJECT(dword), OBJECT(qword), OBJECT(text),
+               OBJECT(buffer), OBJECT(package), OBJECT(of_packages), OBJECT(scope), OBJECT(method), OBJECT(external),
+               OBJECT(dword_field), OBJECT(field_of_bits), OBJECT(mutex), OBJECT(event), OBJECT(region), OBJECT(field),
+               OBJECT(device), OBJECT(processor), OBJECT(power), OBJECT(zone), OBJECT(index), OBJECT(bank),
+               OBJECT(data_region)};
 
 #define OF_AML(name, status, ...) {name, sizeof name, 5, status, {__VA_ARGS__}}
 #define INVALID(name) OF_AML(name, ZACPI_AML_INVALID, 0, 0)

@@ -32,6 +32,20 @@ LONG_LIST(a_long_madt, madt, zacpi_madt_contents, small_madt, io_apics, 44 + 8, 
 LONG_LIST(a_long_gic, gic_madt, zacpi_gic_contents, small_gic, translation_services, 44 + 24 + 80, 20)
 LONG_LIST(a_long_riscv_madt, riscv_madt, zacpi_riscv_contents, harts_alone, imsics, 44 + 36, 16)
 LONG_LIST(a_long_rhct, rhct, zacpi_rhct_contents, rhct_without_isa, harts, 56 + 10, 16)
+/* Where 2^32 bytes are no whole number of entries, these two have as many still: a GICD, a GICC, two MSI frames of 24
+ * bytes, and translation services of 20; and an ISA string of 15 letters, in a node of 24 bytes, and harts of 16. */
+static zacpi_status an_exact_gic(size_t *length) {
+    struct zacpi_gic_contents contents = small_gic;
+    contents.msi_frames = (const void *)untouched, contents.msi_frames_length = 2;
+    contents.translation_services = (const void *)untouched;
+    contents.translation_services_length = (size_t)((FOUR_GIB - (44 + 24 + 80 + 2 * 24)) / 20);
+    return zacpi_write_gic_madt(ids, &contents, untouched, (size_t)(FOUR_GIB + 64), length);
+}
+static zacpi_status an_exact_rhct(size_t *length) {
+    const struct zacpi_rhct_contents contents = {untouched, 15, (const void *)untouched,
+                                                 (size_t)((FOUR_GIB - (56 + 24)) / 16), 1, 0};
+    return zacpi_write_rhct(ids, &contents, untouched, (size_t)(FOUR_GIB + 64), length);
+}
 LONG(a_long_mcfg, mcfg, (const struct zacpi_pci_region *)(const void *)untouched, (size_t)((FOUR_GIB - 44 + 15) / 16))
 
 /* The DSDT of a machine, whose AML's first bytes alone are read. */
@@ -110,6 +124,17 @@ static zacpi_status all_listed(size_t *length) {
     const struct zacpi_machine machine = {makers, &unsummed, (size_t)FOUR_GIB, NULL, 0, NULL, 0};
     return zacpi_tables_size(&machine, length);
 }
+/* A table of 36 bytes, as which so many more are listed. */
+#define LONG_LISTED(verb, answer) \
+    static zacpi_status verb(size_t *length) { \
+        static const struct zacpi_listed_table listed = {oem_bytes, (zacpi_size)(FOUR_GIB + 36)}; \
+        const struct zacpi_machine machine = {makers, &listed, 1, NULL, 0, NULL, 0}; \
+        return answer; \
+    }
+LONG_LISTED(a_long_listed_machine, zacpi_write_tables(&machine, 0x7fe00000, untouched, (size_t)FOUR_GIB, length))
+LONG_LISTED(a_long_listed_tree,
+            zacpi_write_tables_without_rsdp(&machine, 0x7fe00000, untouched, (size_t)FOUR_GIB, length))
+LONG_LISTED(a_long_listed_size, zacpi_tables_size(&machine, length))
 
 static void check_long(const char *name, int which, zacpi_status (*run)(size_t *length), zacpi_status status) {
     size_t *length = paint_size(&out_count);
@@ -127,8 +152,9 @@ static void check_all_of(void) {
         {all_platform_timers, ZACPI_UNKNOWN_CODE}, {all_of_an_rsdt, ZACPI_NO_ROOM}, {all_of_an_xsdt, ZACPI_NO_ROOM},
         {all_of_a_dsdt, ZACPI_TOO_LONG}, {all_of_an_ssdt, ZACPI_TOO_LONG}, {all_of_a_table, ZACPI_TOO_LONG},
         {all_of_an_mcfg, ZACPI_NO_ROOM}, {no_matrix, ZACPI_BAD_MATRIX}, {all_frames, ZACPI_UNKNOWN_CODE},
-        {all_listed, ZACPI_BAD_TABLE}, {a_long_front_of_dsdt, ZACPI_TOO_LONG}, {a_long_front_of_ssdt, ZACPI_TOO_LONG},
-        {a_long_front_of_a_machine, ZACPI_TOO_LONG}};
+        {all_listed, ZACPI_BAD_TABLE}, {a_long_listed_machine, ZACPI_BAD_TABLE}, {a_long_listed_tree, ZACPI_BAD_TABLE},
+        {a_long_listed_size, ZACPI_BAD_TABLE}, {a_long_front_of_dsdt, ZACPI_TOO_LONG},
+        {a_long_front_of_ssdt, ZACPI_TOO_LONG}, {a_long_front_of_a_machine, ZACPI_TOO_LONG}};
     size_t i;
     for (i = 0; i < sizeof all / sizeof *all; i++) check_long("2^32 items", (int)i, all[i].run, all[i].status);
 }
@@ -159,15 +185,32 @@ static void check_large_machine(void) {
     result(!got && *length == (size_t)(FOUR_GIB + 48 + 48 + 128), "a large machine", 0, 0, got);
 }
 
+/* Of many DSDTs and FACSs the first of each counts, also of 2^56, a count that has no bit below its highest byte. The
+ * RSDP, the XSDT and the DSDT have 48 bytes each. */
+static void check_first_of_many(void) {
+    static const unsigned shifts[] = {1, 8, 16, 24, 32, 40, 48, 56};
+    const struct zacpi_aml_contents dsdt = {NULL, 0, 2};
+    size_t i;
+    for (i = 0; i < sizeof shifts / sizeof *shifts; i++) {
+        const zacpi_size many = (zacpi_size)1 << shifts[i];
+        const struct zacpi_machine machine = {makers, NULL, 0, &dsdt, many, &facs, many};
+        size_t *length = paint_size(&out_count);
+        const zacpi_status got = zacpi_tables_size(&machine, length);
+        result(!got && *length == 48 + 48 + 48 + 128, "many DSDTs and FACSs", (int)shifts[i], 0, got);
+    }
+}
+
 static void check_too_long(void) {
     static const struct { const char *name; zacpi_status (*run)(size_t *length); } all[] = {
         {"table", a_long_table}, {"dsdt", a_long_dsdt}, {"ssdt", a_long_ssdt}, {"rsdt", a_long_rsdt},
         {"xsdt", a_long_xsdt}, {"slit", a_long_slit}, {"madt", a_long_madt}, {"gic_madt", a_long_gic},
-        {"riscv_madt", a_long_riscv_madt}, {"rhct", a_long_rhct}, {"mcfg", a_long_mcfg},
+        {"gic_madt", an_exact_gic}, {"riscv_madt", a_long_riscv_madt}, {"rhct", a_long_rhct},
+        {"rhct", an_exact_rhct}, {"mcfg", a_long_mcfg},
         {"tables", a_long_machine}, {"tables_without_rsdp", a_long_tree}, {"tables_size", a_long_size}};
     const size_t size = (size_t)(FOUR_GIB + EDGE_PAGE);
     void *at;
     size_t i;
+    check_first_of_many();
     if (size < EDGE_PAGE + 1) return; /* an address has 32 bits */
     at = mmap(NULL, size, PROT_READ, MAP_PRIVATE | MAP_ANONYMOUS | MAP_NORESERVE, -1, 0);
     if (at == MAP_FAILED) return;

@@ -1,4 +1,5 @@
-/* The blocks of AML of rows_states.h and rows_aml.h as DSDTs, each at the end of its region. For rows.c. */
+/* Blocks of AML as DSDTs, each at the end of its region: those of rows_states.h and rows_aml.h, the objects of the
+ * last, cut at each place, and each opcode. For rows.c. */
 #ifndef ROWS_SLEEP_H
 #define ROWS_SLEEP_H
 #include "rows_states.h"
@@ -24,8 +25,68 @@ static void check_state(const struct state_row *row, size_t number) {
            "get_sleep_types", (int)number, row->length, got);
 }
 
+/* Each object, cut at each place: without its last bytes it is no AML, and of no byte nothing is. */
+static void check_objects(void) {
+    size_t i, k;
+    for (i = 0; i < sizeof objects / sizeof *objects; i++)
+        for (k = 0; k <= objects[i].length; k++) {
+            struct state_row row = {objects[i].aml, k, 5, ZACPI_AML_INVALID, {0, 0}};
+            if (k == 0 || k == objects[i].length) row.status = ZACPI_SLEEP_STATE_ABSENT;
+            check_state(&row, 11000 + i);
+        }
+}
+
+/* ---- Opcodes ---------------------------------------------------------------------------------------------------- */
+
+struct opcodes {
+    unsigned first, last;
+};
+static int is_among(const struct opcodes *all, unsigned code) {
+    for (; all->last; all++)
+        if (all->first <= code && code <= all->last) return 1;
+    return 0;
+}
+/* What is run: Store to Mod, Notify to Match, ObjectType, LAnd to ToInteger, ToString to Continue, Return and Break,
+ * BreakPoint; CondRefOf, LoadTable to Unload, Fatal and Timer (sections 20.2.5.3 and 20.2.5.4). */
+static const struct opcodes run[] = {{0x70, 0x85}, {0x86, 0x89}, {0x8e, 0x8e}, {0x90, 0x99}, {0x9c, 0x9f}, {0xa4, 0xa5},
+                                     {0xcc, 0xcc}, {0x5b12, 0x5b12}, {0x5b1f, 0x5b2a}, {0x5b32, 0x5b33}, {0, 0}};
+/* Objects, and what begins a call or another operand: Alias, Name, Scope, Buffer to VarPackage, Method and External,
+ * prefixes of names, letters, the prefix of opcodes of two bytes, CreateDWordField to CreateBitField, CreateQWordField,
+ * If to Noop; Mutex and Event, CreateField, OperationRegion to DataTableRegion. */
+static const struct opcodes begun[] = {{0x06, 0x06}, {0x08, 0x08}, {0x10, 0x15}, {0x2e, 0x2f}, {'A', 'Z'}, {0x5b, 0x5c},
+                                       {0x5e, 0x5f}, {0x8a, 0x8d}, {0x8f, 0x8f}, {0xa0, 0xa3}, {0x5b01, 0x5b02},
+                                       {0x5b13, 0x5b13}, {0x5b80, 0x5b88}, {0, 0}};
+/* Zero and One, BytePrefix to QWordPrefix, Local0 to Arg6, Ones; Revision and Debug: no term. */
+static const struct opcodes data[] = {{0, 1}, {0x0a, 0x0e}, {0x60, 0x6e}, {0xff, 0xff}, {0x5b30, 0x5b31}, {0, 0}};
+
+static void check_opcode_after(const uint8_t *front, size_t length, unsigned code, zacpi_status status) {
+    static const uint8_t name[] = {S5_OF_7_6};
+    uint8_t aml[8 + sizeof name];
+    struct state_row row = {aml, 0, 5, 0, {0, 0}};
+    if (length) memcpy(aml, front, length);
+    if (code > 0xff) aml[length++] = 0x5b;
+    aml[length++] = (uint8_t)code;
+    memcpy(aml + length, name, sizeof name);
+    row.length = length + sizeof name, row.status = status;
+    check_state(&row, 20000 + code);
+}
+/* Each opcode where an object has to begin, with the name of state 5 after it. What is run may define that; what
+ * section 20.3 has no opcode for, or one that begins no term, is no AML, and so is the first as what a name is set to.
+ * Objects and operands have rows of their own. */
+static void check_opcode(unsigned code) {
+    static const uint8_t named[] = {8, FOO};
+    if (is_among(begun, code)) return;
+    if (is_among(run, code)) check_opcode_after(NULL, 0, code, ZACPI_SLEEP_STATE_NOT_SEEN);
+    else {
+        check_opcode_after(NULL, 0, code, ZACPI_AML_INVALID);
+        if (!is_among(data, code)) check_opcode_after(LISTED(named), code, ZACPI_AML_INVALID);
+    }
+}
+
 static void check_states(void) {
     size_t i;
+    check_objects();
+    for (i = 0; i < 0x100; i++) check_opcode((unsigned)i), check_opcode(0x5b00 + (unsigned)i);
     for (i = 0; i < sizeof states / sizeof *states; i++) check_state(states + i, i);
     for (i = 0; i < sizeof more_states / sizeof *more_states; i++) check_state(more_states + i, 10000 + i);
 }
