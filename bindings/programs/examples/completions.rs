@@ -39,8 +39,11 @@ fn main() -> std::io::Result<()> {
     for (option, words) in WORDS {
         command = command.mut_arg(option, |arg| arg.value_parser(words.to_vec()));
     }
-    // Without a value it is the same as with the last of its words, and not with none, which is no word.
+    let rules = acpi_dump::check::rules::rules(acpi_dump::rattle::alloc::Global);
+    let names: Vec<_> = rules.iter().flat_map(|rules| rules.iter()).map(|rule| rule.id).collect();
+    // Of these the value may be missing. What stands for it then has to be a word, and no shell completes it.
     command = command.mut_arg("check", |arg| arg.default_missing_value("note"));
+    command = command.mut_arg("rules", |arg| arg.value_parser(names).default_missing_value("header-sum"));
     command = command.mut_arg("input", |arg| arg.num_args(1..));
     for (option, hint) in HINTS {
         command = command.mut_arg(option, |arg| arg.value_hint(hint));

@@ -3,9 +3,10 @@
 //! A rule is a line of its subject's `RULES`, and code of the subject that adds a finding by the rule's id, or rows of
 //! `fields.rt` that name a field. A line is `ID SEVERITY SECTION | WHAT | MESSAGE`: the section that the rule rests on,
 //! what it finds, and the message of a finding, in which `#` and `%` are replaced by its numbers. A rule without a
-//! message has several, or one with a value.
+//! message has several, or one with a value. `advice.rt` has what to do about what a rule finds.
 #![tactic(auto)]
 
+pub mod advice;
 mod affinities;
 mod aml;
 mod devices;

@@ -34,3 +34,17 @@ pub fn rules(alloc: Global) -> Result<Vec<Rule>, AllocError> {
     }
     Ok(all)
 }
+
+/// The rule of an id, or `None` if no rule has it.
+pub fn rule_of(id: &str) -> Option<Rule> {
+    for subject in &subjects() {
+        for line in subject.split('\n') {
+            if let Some(rule) = rule_in(line)
+                && rule.id == id
+            {
+                return Some(rule);
+            }
+        }
+    }
+    None
+}

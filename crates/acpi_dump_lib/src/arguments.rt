@@ -4,6 +4,7 @@ ghost use Rattle.acpi_dump_lib.specs.Asked.{AreAlike, ChoosesNone, IsAsked, aske
 ghost use Rattle.clap.specs.Matches.{first_value, found_of};
 
 use crate::options::{Choice, Contents, refuse, refuse_option};
+use crate::rules::parse_rule;
 use crate::values::{
     Color, Format, Order, is_rsdp, parse_color, parse_format, parse_order, parse_signature,
     parse_start,
@@ -13,7 +14,7 @@ use acpi::sdt::Signature;
 use acpi_cli::parse_address;
 use acpi_cli::root::{Root, parse_root};
 use acpi_dump_input::errors::{Log, Stop};
-use acpi_dump_input::judgement::Severity;
+use acpi_dump_input::judgement::{Rule, Severity};
 use acpi_dump_input::kind::{Kind, parse_kind};
 use acpi_dump_input::read::Reading;
 use clap::ArgMatches;
@@ -76,6 +77,8 @@ pub(crate) struct Request<'w> {
     pub(crate) baseline: Option<&'w str>,
     /// The file of lines that accept findings, which are left out.
     pub(crate) accepted: Option<&'w str>,
+    /// The rule that is shown in place of all.
+    pub(crate) rule: Option<Rule>,
     pub(crate) format: Format,
     pub(crate) order: Order,
     pub(crate) color: Color,
@@ -124,6 +127,14 @@ fn checked<T: Copy>(
     match matches.get_str(option) {
         Some(word) if value.is_none() => Err(refuse_option(log, option, word)),
         _ => Ok(value),
+    }
+}
+
+/// Whether an option is there that takes no value, or may have one.
+fn is_there(matches: &ArgMatches<'_>, option: &str) -> bool {
+    match matches.get_str(option) {
+        Some("false") | None => matches.get_flag(option),
+        Some(_) => true,
     }
 }
 
@@ -242,7 +253,7 @@ impl Request<'_> {
             self.view = View::Tables;
         }
         for (option, view) in &VIEWS {
-            if matches.get_flag(*option) {
+            if is_there(matches, *option) {
                 self.take_view(*view, log)?;
             }
         }
@@ -395,6 +406,25 @@ fn reading_of(matches: &ArgMatches<'_>, log: &mut Log) -> Result<Reading, Stop> 
     })
 }
 
+/// The least severity of what rules find that is shown, and the rule that is, if they are said.
+///
+/// Fails if memory runs out, or, after printing that, if one isn't there.
+fn judging_of(
+    alloc: Global,
+    matches: &ArgMatches<'_>,
+    log: &mut Log,
+) -> Result<(Option<Severity>, Option<Rule>), Stop> {
+    let least = match word_of(matches, "check") {
+        "" => None,
+        word => checked(matches, log, "check", Severity::read(word))?,
+    };
+    let rule = match word_of(matches, "rules") {
+        "" => None,
+        word => Some(parse_rule(alloc, log, word)?),
+    };
+    Ok((least, rule))
+}
+
 /// The request that matches make.
 ///
 /// Fails if memory runs out, or, after printing that, with the first mistake in this order: the words of options but
@@ -406,16 +436,14 @@ pub(crate) fn request_of<'m>(
 ) -> Result<Request<'m>, Stop>
     ensures { IfOk result (λ r. IsAsked (found_of matches.now) (asked_of r)) }
 {
-    let least = match word_of(matches, "check") {
-        "" => None,
-        word => checked(matches, log, "check", Severity::read(word))?,
-    };
+    let (least, rule) = judging_of(alloc, matches, log)?;
     let start = parse_start(word_of(matches, "start"));
     let color = parse_color(word_of(matches, "color"));
     let format = parse_format(word_of(matches, "format"));
     let order = parse_order(word_of(matches, "sort"));
     let mut request = Request {
         least,
+        rule,
         reading: reading_of(matches, log)?,
         start: checked(matches, log, "start", start)?,
         folder: checked(matches, log, "extract", name_of(matches, "extract"))?,

@@ -14,6 +14,7 @@ mod listing;
 mod options;
 mod paint;
 pub mod parser;
+mod rules;
 pub mod run;
 mod summary;
 mod values;

@@ -8,7 +8,8 @@ use std::alloc::{AllocError, Global};
 
 /// The options, a line for each: what it is called, with its letter after a comma if it has one, what it takes, and
 /// its help. It takes nothing (`-`), one value, or with `..` after the value's name a value each time
-/// that it comes, or several between commas, and in brackets a value that may follow after `=`.
+/// that it comes, or several between commas, and in brackets a value that may follow, but only after `=` if that comes
+/// after the brackets.
 const OPTIONS: &str = "as KIND What the input is: image, memory, text or table
 at ADDRESS The address of raw memory's first byte
 start START The way to the root table: rsdt:REVISION:ADDRESS, rsdp:ADDRESS or bios
@@ -22,12 +23,12 @@ html FILE A page of all of it: the machine drawn, what rules find, and each tabl
 force - Files of --extract and --html replace those that are there
 summary - The machine in short
 find - Every RSDP in memory, valid or not
-check [SEVERITY] What rules find wrong: all, or only what is an error, a warning or worse, or a note or worse
+check [SEVERITY]= What rules find wrong: all, or only what is an error, a warning or worse, or a note or worse
 baseline FILE A document of an earlier --check --json, whose findings are left out
 ignore-rules FILE Findings that are accepted, and left out: lines RULE [SIG [FIELD]] [until DATE]: REASON
 format FORMAT What --check prints in place of lines: sarif or junit
 sort KEY The order of what --check finds: by table, rule or severity
-rules - The rules of --check
+rules [RULE] The rules of --check, or one of them, and what to do about what it finds
 fleet - Each input as machines, of which a folder has many: their groups, and what differs
 base INPUT The machine with which those of --fleet are compared, in place of the largest group's first
 alike - Fields that differ between machines of one kind are left out of --fleet: addresses, sums, serial numbers
@@ -52,10 +53,11 @@ fn option<'a>(alloc: Global, line: &'static str) -> Arg<'a> {
         return option.action(ArgAction::SetTrue);
     }
     if let Some(value) = takes.strip_prefix('[') {
+        let (value, after) = cut_at(value, ']');
         return option
-            .value_name(cut_at(value, ']').0)
+            .value_name(value)
             .num_args(0..=1)
-            .require_equals(true)
+            .require_equals(after == "=")
             .default_missing_value("")
             .action(ArgAction::Set);
     }
@@ -133,6 +135,7 @@ baseline FILE --check[=SEVERITY]
 ignore-rules FILE --check[=SEVERITY]
 format sarif | junit, with --check
 sort table | rule | severity, with --check
+rules RULE, one of those that --rules lists
 code --table SIG, without --text and --extract
 force with --extract DIR | --html FILE
 ignore FIELD --compare A B
@@ -158,10 +161,16 @@ fn usage_of(option: &str) -> &'static str {
 
 /// Prints that the word of an option is wrong, and what would be right.
 pub(crate) fn refuse_option(log: &mut Log, option: &'static str, word: &str) -> Stop {
+    refuse_value(log, option, word, usage_of(option))
+}
+
+/// Prints that the word of an option is wrong, and a usage.
+pub(crate) fn refuse_value(log: &mut Log, option: &'static str, word: &str, usage: &str) -> Stop {
     log.text.fill("acpi_dump: --$: ", &[option]);
     log.text.escaped(word.as_bytes());
-    let texts = [option, usage_of(option)];
-    log.text.fill("\nusage: --$ $\n", &texts);
+    log.text.fill("\nusage: --$ ", &[option]);
+    log.text.text(usage);
+    log.text.text("\n");
     Stop::Message
 }
 

@@ -7,6 +7,7 @@ mod junit;
 mod machine;
 mod page;
 mod read;
+mod rules;
 mod sarif;
 mod single;
 
@@ -32,10 +33,10 @@ use acpi_dump_walk::out::Out;
 pub(crate) use compared::print_compared;
 use found::print_found;
 use judged::print_judged;
-pub(crate) use judged::print_rules;
 use machine::print_summary;
 pub(crate) use page::save_page;
 use read::tables_in;
+pub(crate) use rules::print_rules;
 use single::print_values;
 use std::alloc::Global;
 

@@ -5,12 +5,13 @@ use crate::arguments::ArgMatches;
 use crate::cli::parse_address;
 use crate::cli::root::{Root, parse_root};
 use crate::dump::options::{Choice, Contents, refuse, refuse_option};
+use crate::dump::rules::parse_rule;
 use crate::dump::values::{
     Color, Format, Order, is_rsdp, parse_color, parse_format, parse_order, parse_signature, parse_start,
 };
 use crate::dump::wanted::{Wanted, check_wanted};
 use crate::input::errors::{Log, Stop};
-use crate::input::judgement::Severity;
+use crate::input::judgement::{Rule, Severity};
 use crate::input::kind::{Kind, parse_kind};
 use crate::input::read::Reading;
 use crate::rattle::Vec;
@@ -73,6 +74,8 @@ pub(crate) struct Request<'w> {
     pub(crate) baseline: Option<&'w str>,
     /// The file of lines that accept findings, which are left out.
     pub(crate) accepted: Option<&'w str>,
+    /// The rule that is shown in place of all.
+    pub(crate) rule: Option<Rule>,
     pub(crate) format: Format,
     pub(crate) order: Order,
     pub(crate) color: Color,
@@ -111,6 +114,14 @@ fn checked<T: Copy>(
     match matches.get_str(option) {
         Some(word) if value.is_none() => Err(refuse_option(log, option, word)),
         _ => Ok(value),
+    }
+}
+
+/// Whether an option is there that takes no value, or may have one.
+fn is_there(matches: &ArgMatches<'_>, option: &str) -> bool {
+    match matches.get_str(option) {
+        Some("false") | None => matches.get_flag(option),
+        Some(_) => true,
     }
 }
 
@@ -203,7 +214,7 @@ impl Request<'_> {
             self.view = View::Tables;
         }
         for (option, view) in &VIEWS {
-            if matches.get_flag(*option) {
+            if is_there(matches, *option) {
                 self.take_view(*view, log)?;
             }
         }
@@ -305,21 +316,38 @@ fn reading_of(matches: &ArgMatches<'_>, log: &mut Log) -> Result<Reading, Stop> 
     })
 }
 
+/// The least severity of what rules find that is shown, and the rule that is, if they are said.
+///
+/// Fails if memory runs out, or, after printing that, if one isn't there.
+fn judging_of(
+    alloc: Global,
+    matches: &ArgMatches<'_>,
+    log: &mut Log,
+) -> Result<(Option<Severity>, Option<Rule>), Stop> {
+    let least = match word_of(matches, "check") {
+        "" => None,
+        word => checked(matches, log, "check", Severity::read(word))?,
+    };
+    let rule = match word_of(matches, "rules") {
+        "" => None,
+        word => Some(parse_rule(alloc, log, word)?),
+    };
+    Ok((least, rule))
+}
+
 /// The request that matches make.
 ///
 /// Fails if memory runs out, or, after printing that, with the first mistake in this order: the words of options but
 /// those of `--get`, the choices, the views with the words of `--get`, and the way to the root table.
 pub(crate) fn request_of<'m>(alloc: Global, matches: &'m ArgMatches<'_>, log: &mut Log) -> Result<Request<'m>, Stop> {
-    let least = match word_of(matches, "check") {
-        "" => None,
-        word => checked(matches, log, "check", Severity::read(word))?,
-    };
+    let (least, rule) = judging_of(alloc, matches, log)?;
     let start = parse_start(word_of(matches, "start"));
     let color = parse_color(word_of(matches, "color"));
     let format = parse_format(word_of(matches, "format"));
     let order = parse_order(word_of(matches, "sort"));
     let mut request = Request {
         least,
+        rule,
         reading: reading_of(matches, log)?,
         start: checked(matches, log, "start", start)?,
         folder: checked(matches, log, "extract", name_of(matches, "extract"))?,

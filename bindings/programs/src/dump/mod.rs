@@ -20,6 +20,7 @@ mod listing;
 pub(crate) mod options;
 mod paint;
 pub mod parser;
+mod rules;
 pub mod run;
 mod summary;
 mod values;

@@ -1,4 +1,4 @@
-//! What rules find in the tables of an input, and the rules themselves, as lines and as documents.
+//! What rules find in the tables of an input, as lines and as documents.
 
 use super::junit::print_junit;
 use super::read::{Tables, tables_in};
@@ -8,11 +8,10 @@ use crate::arguments::View;
 use crate::document::Document;
 use crate::values::{Format, Order};
 use acpi_dump_check::findings_of;
-use acpi_dump_check::rules::rules;
 use acpi_dump_input::entries::{Entry, Place, own_signature, print_name};
 use acpi_dump_input::errors::{Log, Stop};
 use acpi_dump_input::gather::Input;
-use acpi_dump_input::judgement::{Finding, Judgement, Rule, Severity, counts_of};
+use acpi_dump_input::judgement::{Finding, Judgement, Severity, counts_of};
 use acpi_dump_walk::out::Out;
 use json::Token;
 use std::alloc::AllocError;
@@ -169,32 +168,4 @@ pub(super) fn status_of(output: Output<'_>, entries: &[Entry<'_>], findings: &Ju
         return 4;
     }
     strict_status(output, entries)
-}
-
-/// Adds the rules.
-fn add_rules(rules: &[Rule], document: &mut Document<'_>) {
-    for rule in rules {
-        document.token(Token::BeginObject);
-        let texts = [rule.id, rule.section, rule.severity.word(), rule.what];
-        document.texts("rule section severity what", &texts);
-        document.token(Token::EndObject);
-    }
-}
-
-/// Prints the rules.
-///
-/// Fails if memory runs out.
-pub(crate) fn print_rules(output: Output<'_>, out: &mut Out) -> Result<u8, Stop> {
-    let rules = &rules(output.alloc)?;
-    if output.request.is_json {
-        let mut document = output.document("rules");
-        add_rules(rules, &mut document);
-        document.print("rules", out)?;
-        return Ok(0);
-    }
-    for rule in rules {
-        let texts = [rule.id, rule.severity.word(), rule.what, rule.section];
-        out.fill("$ $: $ ($)\n", &texts);
-    }
-    Ok(0)
 }

@@ -1,19 +1,18 @@
 // Made by scripts/erase of crates/acpi_dump_lib/src/views/judged.rt, where it is proved.
-//! What rules find in the tables of an input, and the rules themselves, as lines and as documents.
+//! What rules find in the tables of an input, as lines and as documents.
 
 use super::junit::print_junit;
 use super::read::{Tables, tables_in};
 use super::sarif::print_sarif;
 use super::{Output, strict_status};
 use crate::check::findings_of;
-use crate::check::rules::rules;
 use crate::dump::arguments::View;
 use crate::dump::document::Document;
 use crate::dump::values::{Format, Order};
 use crate::input::entries::{Entry, Place, own_signature, print_name};
 use crate::input::errors::{Log, Stop};
 use crate::input::gather::Input;
-use crate::input::judgement::{Finding, Judgement, Rule, Severity, counts_of};
+use crate::input::judgement::{Finding, Judgement, Severity, counts_of};
 use crate::json::Token;
 use crate::rattle::alloc::AllocError;
 use crate::walk::out::Out;
@@ -138,32 +137,4 @@ pub(super) fn status_of(output: Output<'_>, entries: &[Entry<'_>], findings: &Ju
         return 4;
     }
     strict_status(output, entries)
-}
-
-/// Adds the rules.
-fn add_rules(rules: &[Rule], document: &mut Document<'_>) {
-    for rule in rules {
-        document.token(Token::BeginObject);
-        let texts = [rule.id, rule.section, rule.severity.word(), rule.what];
-        document.texts("rule section severity what", &texts);
-        document.token(Token::EndObject);
-    }
-}
-
-/// Prints the rules.
-///
-/// Fails if memory runs out.
-pub(crate) fn print_rules(output: Output<'_>, out: &mut Out) -> Result<u8, Stop> {
-    let rules = &rules(output.alloc)?;
-    if output.request.is_json {
-        let mut document = output.document("rules");
-        add_rules(rules, &mut document);
-        document.print("rules", out)?;
-        return Ok(0);
-    }
-    for rule in rules {
-        let texts = [rule.id, rule.severity.word(), rule.what, rule.section];
-        out.fill("$ $: $ ($)\n", &texts);
-    }
-    Ok(0)
 }
