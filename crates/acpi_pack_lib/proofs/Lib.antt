@@ -1,5 +1,4 @@
 pub mod Packed
 pub mod Placing
-pub mod Saved
 pub mod Spans
 pub mod TableSums

@@ -1,12 +1,12 @@
 pub mod Held
 pub mod Listing
+pub mod Outcome
 pub mod Pack
 pub mod Packed
 pub mod Place
 pub mod Plain
 pub mod Program
 pub mod Reads
-pub mod Run
 pub mod Sources
 pub mod Sums
 pub mod Texts

@@ -1,5 +1,5 @@
 -- Files that are tables, with their Checksum set.
-use Rattle.std.specs.Prelude.{ℕ, nat_eq, nat_le, Bool, false, not, ◌&&◌, ◌||◌, if◌then◌else◌, codes, List, length, map, Option, Some, None, option_map}
+use Rattle.std.specs.Prelude.{ℕ, nat_eq, nat_le, Bool, not, ◌&&◌, ◌||◌, if◌then◌else◌, codes, List, length, map, Option, option_map}
 use Rattle.acpi_base.specs.Words.{field_of}
 use Rattle.acpi_image.specs.Words.{with_sum}
 use Rattle.acpi_pack_lib.specs.Arguments.{Request}
@@ -25,11 +25,6 @@ summed bytes = if has_sum bytes then with_sum 9 bytes else bytes
 abbrev pub all_summed : List (Option (List ℕ)) → List (Option (List ℕ))
 all_summed files = map (λ file. option_map summed file) files
 
--- whether a request has that
-abbrev pub fixes_sums : Option Request → Bool
-fixes_sums None = false
-fixes_sums (Some r) = r.options.fixes_sums
-
 -- the files that are packed for a request
-abbrev pub sources_for : Option Request → List (Option (List ℕ)) → List (Option (List ℕ))
-sources_for asked files = if fixes_sums asked then all_summed files else files
+abbrev pub sources_for : Request → List (Option (List ℕ)) → List (Option (List ℕ))
+sources_for r files = if r.options.fixes_sums then all_summed files else files

@@ -28,6 +28,15 @@ pub use Rattle.acpi_pack_lib.specs.Listing.{
   record_lines,
   table_label,
 }
+pub use Rattle.acpi_pack_lib.specs.Outcome.{
+  IsFormOf,
+  Packs,
+  left_out_by,
+  left_out_lines,
+  packed_by,
+  refused_line,
+  refused_name,
+}
 pub use Rattle.acpi_pack_lib.specs.Pack.{
   RefusesOrRunsOut,
   all_regions,
@@ -79,31 +88,13 @@ pub use Rattle.acpi_pack_lib.specs.Plain.{
   with_regions,
 }
 pub use Rattle.acpi_pack_lib.specs.Program.{
-  Effects,
-  Follows,
-  IsFormOf,
-  Packs,
-  PacksFiles,
+  Does,
+  IsOutcome,
+  IsOutcomeFor,
   Runs,
-  SavesAtMost,
-  SavesBytes,
-  SavesImage,
-  SavesOnce,
-  SavesOrRefuses,
   SavesOutcome,
-  SavesPacked,
   SavesRead,
-  files_for,
-}
-pub use Rattle.acpi_pack_lib.specs.Run.{
-  Ends,
-  IsReport,
-  left_out_by,
-  left_out_lines,
-  packed_by,
-  refused_line,
-  refused_name,
-  usage_line,
+  files_named,
 }
 pub use Rattle.acpi_pack_lib.specs.Sources.{
   bytes_in,
@@ -118,7 +109,6 @@ pub use Rattle.acpi_pack_lib.specs.Sources.{
 }
 pub use Rattle.acpi_pack_lib.specs.Sums.{
   all_summed,
-  fixes_sums,
   has_sum,
   is_unsummed,
   sources_for,

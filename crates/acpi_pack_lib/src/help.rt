@@ -2,6 +2,10 @@
 ghost use Rattle.std.specs.Prelude.{◌≡◌, map, option_map};
 ghost use Rattle.acpi_pack_lib.specs.Words.{told_of, told_to};
 
+/// The line on how the program packs.
+pub(crate) const USAGE: &str =
+    "usage: acpi_pack [--fix-checksum] [--raw] OUT memory ADDRESS FILE [ADDRESS FILE]... | tables FILE...\n";
+
 /// The text on how the program is called.
 const HELP: &str =
     "usage: acpi_pack [--fix-checksum] [--raw] OUT memory ADDRESS FILE [ADDRESS FILE]... | tables FILE...

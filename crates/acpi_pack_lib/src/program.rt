@@ -1,235 +1,88 @@
 //! The program over any files, any storage and any writers.
-ghost use Rattle.std.specs.Prelude.{◌≡◌, true, IfErr, IfOk, OnErr, map, option_map};
+ghost use Rattle.std.specs.Prelude.{◌≡◌, ◌⊎◌, IfOk, OnErr, map};
 ghost use Rattle.acpi_pack_lib.specs.Reads.{AsksFront};
-ghost use Rattle.acpi_pack_lib.specs.Words.{contents, Follows, HasNoPlain, IsFormOf, Packs, PacksFiles, Runs, SavesAtMost, SavesBytes, SavesImage, SavesOnce, SavesOrRefuses, SavesOutcome, SavesPacked, SavesRead, files_for, fixes_sums, request_in, request_of, sources_for};
+ghost use Rattle.acpi_pack_lib.specs.Words.{Does, IsOutcome, Runs, SavesOutcome, SavesRead, files_named};
 
-use crate::arguments::{Command, Options, parse_command};
-use crate::error::Refusal;
+use crate::arguments::parse_command;
 use crate::files::{Files, count};
-use crate::help::told;
-use crate::listing::record_lines;
-use crate::plain::plain_of;
+use crate::help::{USAGE, told};
+use crate::outcome::{Outcome, outcome_of};
 use crate::reading::{contents_from, read_all};
-use crate::run::{Outcome, run};
-use crate::sources::FileBytes;
-use crate::sums::{all_summed, lent};
 use acpi_cli::storage::Storage;
 use std::alloc::{AllocError, Global};
 use std::io;
 use std::io::Write;
 
-/// The files that are read for a command, or none if there is none.
-fn files_named<'c, 'w>(asked: &'c Option<Command<'w>>) -> &'c [&'w str]
-    ensures { map (λ n. n.now) result.now ≡ files_for (option_map request_of asked.now) }
-{
-    match asked {
-        Some(command) => &command.names,
-        None => &[],
-    }
-}
-
-/// Whether a command requests the sums of tables to be set.
-fn fixes_sums(asked: &Option<Command<'_>>) -> bool
-    ensures { result ≡ fixes_sums (option_map request_of asked.now) }
-{
-    match asked {
-        Some(command) => command.options.fixes_sums,
-        None => false,
-    }
-}
-
-/// What is saved of an image: its plain memory if that is requested, and else the image.
+/// What becomes of a run on the arguments after the program's name. If they are a command, the files that it names
+/// are read, in order, and else none.
 ///
-/// Fails as `plain_of` does.
-fn form_of(alloc: Global, options: Options, image: Vec<u8>) -> Result<Vec<u8>, Refusal>
-    ensures exact { IfOk result (λ v. IsFormOf options.is_plain image.items v.items) }
-    ensures refused { IfErr result (λ e. (options.is_plain ≡ true) × HasNoPlain image.items e) }
+/// Fails if memory for anything but the image itself runs out, and requests no other file then.
+fn outcome_for<'w, F: Files>(
+    alloc: Global,
+    arguments: &[&'w str],
+    files: &mut F,
+) -> Result<Outcome<'w>, AllocError>
+    ensures exact { IfOk result (λ o. IsOutcome (map (λ w. w.now) arguments.now)
+        (F.asked files.old) (F.asked files.new) o) }
+    ensures refused { OnErr result (AsksFront (files_named (map (λ w. w.now) arguments.now))
+        (F.asked files.old) (F.asked files.new)) }
 {
-    if options.is_plain {
-        plain_of(alloc, &image)
-    } else {
-        Ok(image)
+    if let Some(text) = told(arguments) {
+        return Ok(Outcome::Shown(text));
     }
+    let Some(command) = parse_command(alloc, arguments)? else {
+        return Ok(Outcome::Refused(String::from_str(alloc, USAGE)?, 2));
+    };
+    let start = count(files);
+    read_all(files, &command.names)?;
+    let sources = contents_from(alloc, files, start)?;
+    outcome_of(alloc, command, &sources)
 }
 
-/// Saves bytes, and prints lines, or why the bytes aren't saved. It returns the status: 0 if they are saved, and
-/// else 1.
+/// Prints what an outcome has for the outputs, and saves its file, if it has one. It returns the status.
 ///
 /// Fails if a write fails or memory runs out.
-#[tactic(auto, using(crate::proofs::Saved::at_most))]
-fn save_bytes<S: Storage, W: Write, E: Write>(
-    command: &Command<'_>,
-    bytes: Vec<u8>,
-    lines: &str,
+pub fn carry_out<S: Storage, W: Write, E: Write>(
+    outcome: Outcome<'_>,
     storage: &mut S,
     out: &mut W,
     err: &mut E,
 ) -> io::Result<u8>
-    ensures exact { IfOk result (λ s. SavesBytes (request_of command.now) bytes.items lines.now s
+    ensures exact { IfOk result (λ s. Does outcome.entry s
         (record { saved = S.saved storage.old; out = W.contents out.old; err = E.contents err.old })
         (record { saved = S.saved storage.new; out = W.contents out.new; err = E.contents err.new })) }
-    ensures failed { OnErr result (SavesAtMost (SavesOnce (request_of command.now) bytes.items)
-        (S.saved storage.old) (S.saved storage.new)) }
+    ensures failed { OnErr result ((S.saved storage.new ≡ S.saved storage.old)
+        ⊎ SavesOutcome outcome.entry (S.saved storage.old) (S.saved storage.new)) }
 {
-    let name = command.out;
-    match storage.save(name, &command.names, bytes)? {
-        Ok(()) => {
-            out.write_all(lines.as_bytes())?;
+    match outcome {
+        Outcome::Shown(text) => {
+            out.write_all(text.as_bytes())?;
             Ok(0)
         }
-        Err(refusal) => {
-            writeln!(err, "refused {name}: {refusal}")?;
-            Ok(1)
+        Outcome::Refused(text, status) => {
+            err.write_all(text.as_bytes())?;
+            Ok(status)
         }
-    }
-}
-
-/// Saves an image in the form that is requested, and prints the lines of its records, or why it isn't saved. It
-/// returns the status: 0 if it is saved, and else 1.
-///
-/// Fails if a write fails or memory runs out.
-#[tactic(auto, using(crate::proofs::Saved::at_most))]
-fn save_image<S: Storage, W: Write, E: Write>(
-    alloc: Global,
-    command: &Command<'_>,
-    files: &[FileBytes<'_>],
-    image: Vec<u8>,
-    storage: &mut S,
-    out: &mut W,
-    err: &mut E,
-) -> io::Result<u8>
-    ensures exact { IfOk result (λ s. SavesOrRefuses (request_of command.now) (contents files.now) image.items s
-        (record { saved = S.saved storage.old; out = W.contents out.old; err = E.contents err.old })
-        (record { saved = S.saved storage.new; out = W.contents out.new; err = E.contents err.new })) }
-    ensures failed { OnErr result (SavesAtMost (SavesImage (request_of command.now) image.items)
-        (S.saved storage.old) (S.saved storage.new)) }
-{
-    let Ok(lines) = record_lines(alloc, command, files, &image) else {
-        return Err(io::Error::from(AllocError));
-    };
-    match form_of(alloc, command.options, image) {
-        Ok(bytes) => save_bytes(command, bytes, &lines, storage, out, err),
-        Err(refusal) => {
+        Outcome::Packed {
+            command,
+            left_out,
+            bytes,
+            lines,
+        } => {
             let name = command.out;
-            writeln!(err, "refused {name}: {refusal}")?;
-            Ok(1)
+            err.write_all(left_out.as_bytes())?;
+            match storage.save(name, &command.names, bytes)? {
+                Ok(()) => {
+                    out.write_all(lines.as_bytes())?;
+                    Ok(0)
+                }
+                Err(refusal) => {
+                    writeln!(err, "refused {name}: {refusal}")?;
+                    Ok(1)
+                }
+            }
         }
     }
-}
-
-/// Does what follows of a run's outcome: saves the image, if there is one. It returns the status.
-///
-/// Fails if a write fails or memory runs out.
-#[tactic(auto, using(crate::proofs::Saved::at_most))]
-fn finish<S: Storage, W: Write, E: Write>(
-    alloc: Global,
-    asked: &Option<Command<'_>>,
-    files: &[FileBytes<'_>],
-    outcome: Outcome,
-    storage: &mut S,
-    out: &mut W,
-    err: &mut E,
-) -> io::Result<u8>
-    ensures exact { IfOk result (λ s. Follows (option_map request_of asked.now) (contents files.now) outcome s
-        (record { saved = S.saved storage.old; out = W.contents out.old; err = E.contents err.old })
-        (record { saved = S.saved storage.new; out = W.contents out.new; err = E.contents err.new })) }
-    ensures failed { OnErr result (SavesAtMost (SavesOutcome (option_map request_of asked.now) outcome)
-        (S.saved storage.old) (S.saved storage.new)) }
-{
-    match (asked, outcome) {
-        (None, _) => Ok(2),
-        (Some(command), Outcome::Image(image)) => {
-            save_image(alloc, command, files, image, storage, out, err)
-        }
-        (Some(_), _) => Ok(1),
-    }
-}
-
-/// Packs files for a command, and does what follows. It returns the status.
-///
-/// Fails if a write fails or memory runs out.
-#[tactic(auto, using(crate::proofs::Saved::at_most))]
-fn pack_files<S: Storage, W: Write, E: Write>(
-    alloc: Global,
-    asked: &Option<Command<'_>>,
-    files: &[FileBytes<'_>],
-    storage: &mut S,
-    out: &mut W,
-    err: &mut E,
-) -> io::Result<u8>
-    ensures exact { IfOk result (λ s. PacksFiles (option_map request_of asked.now) (contents files.now) s
-        (record { saved = S.saved storage.old; out = W.contents out.old; err = E.contents err.old })
-        (record { saved = S.saved storage.new; out = W.contents out.new; err = E.contents err.new })) }
-    ensures failed { OnErr result (SavesAtMost
-        (SavesPacked (option_map request_of asked.now) (contents files.now))
-        (S.saved storage.old) (S.saved storage.new)) }
-{
-    let outcome = run(alloc, asked, files, err)?;
-    finish(alloc, asked, files, outcome, storage, out, err)
-}
-
-/// Packs files for a command as they were read, or if that is requested with the sums of tables set. It returns
-/// the status.
-///
-/// Fails if a write fails or memory runs out.
-#[tactic(auto, using(crate::proofs::Saved::at_most))]
-fn pack_read<S: Storage, W: Write, E: Write>(
-    alloc: Global,
-    asked: &Option<Command<'_>>,
-    files: &[FileBytes<'_>],
-    storage: &mut S,
-    out: &mut W,
-    err: &mut E,
-) -> io::Result<u8>
-    ensures exact { IfOk result (λ s. PacksFiles (option_map request_of asked.now)
-        (sources_for (option_map request_of asked.now) (contents files.now)) s
-        (record { saved = S.saved storage.old; out = W.contents out.old; err = E.contents err.old })
-        (record { saved = S.saved storage.new; out = W.contents out.new; err = E.contents err.new })) }
-    ensures failed { OnErr result (SavesAtMost
-        (SavesPacked (option_map request_of asked.now)
-        (sources_for (option_map request_of asked.now) (contents files.now)))
-        (S.saved storage.old) (S.saved storage.new)) }
-{
-    if !fixes_sums(asked) {
-        return pack_files(alloc, asked, files, storage, out, err);
-    }
-    let copies = all_summed(alloc, files)?;
-    let summed = lent(alloc, &copies)?;
-    pack_files(alloc, asked, &summed, storage, out, err)
-}
-
-/// Packs the files that the arguments name. They are judged first; if they are a command, the files that they
-/// name are read, in order, and else none. If `run` returns an image, it is saved, and then the lines of its
-/// records are printed on the output. It returns the status: 0 if the image is saved, 1 if something
-/// fails, and 2 if the arguments are not a command.
-///
-/// Fails if a write fails, or memory for anything but the image itself.
-#[tactic(auto, using(crate::proofs::Saved::at_most))]
-fn pack_asked<F: Files, S: Storage, W: Write, E: Write>(
-    alloc: Global,
-    arguments: &[&str],
-    files: &mut F,
-    storage: &mut S,
-    out: &mut W,
-    err: &mut E,
-) -> io::Result<u8>
-    ensures exact { IfOk result (λ s. Packs (map (λ w. w.now) arguments.now)
-        (F.asked files.old) (F.asked files.new) s
-        (record { saved = S.saved storage.old; out = W.contents out.old; err = E.contents err.old })
-        (record { saved = S.saved storage.new; out = W.contents out.new; err = E.contents err.new })) }
-    // No other file is requested if it fails.
-    ensures refused { OnErr result (AsksFront (files_for (request_in (map (λ w. w.now) arguments.now)))
-        (F.asked files.old) (F.asked files.new)) }
-    // After an error nothing was to be saved, but for the image if its lines, or why it isn't saved, can't be printed.
-    ensures failed { OnErr result (SavesAtMost
-        (SavesRead (request_in (map (λ w. w.now) arguments.now)) (F.asked files.old) (F.asked files.new))
-        (S.saved storage.old) (S.saved storage.new)) }
-{
-    let asked = parse_command(alloc, arguments)?;
-    let start = count(files);
-    read_all(files, files_named(&asked))?;
-    let sources = contents_from(alloc, files, start)?;
-    pack_read(alloc, &asked, &sources, storage, out, err)
 }
 
 /// Runs the program on the arguments after its name, and returns the status. `--help` and `--version` alone
@@ -238,9 +91,8 @@ fn pack_asked<F: Files, S: Storage, W: Write, E: Write>(
 /// made of them is saved; then the lines of its records are printed on the output. The status is 0 if the
 /// image is saved, 1 if something fails, and 2 if the arguments are not a command.
 ///
-/// Fails if a write fails, or memory for anything but the image itself. The image is saved by then if its lines can't
-/// be printed; after any other error it isn't.
-#[tactic(auto, using(crate::proofs::Saved::at_most))]
+/// Fails if a write fails, or memory for anything but the image itself. The image is saved by then if its lines, or why
+/// it isn't saved, can't be printed; after any other error it isn't.
 pub fn pack<F: Files, S: Storage, W: Write, E: Write>(
     alloc: Global,
     arguments: &[&str],
@@ -249,23 +101,19 @@ pub fn pack<F: Files, S: Storage, W: Write, E: Write>(
     out: &mut W,
     err: &mut E,
 ) -> io::Result<u8>
+    // What is read, printed, saved and returned is what is defined.
     ensures exact { IfOk result (λ s. Runs (map (λ w. w.now) arguments.now)
         (F.asked files.old) (F.asked files.new) s
         (record { saved = S.saved storage.old; out = W.contents out.old; err = E.contents err.old })
         (record { saved = S.saved storage.new; out = W.contents out.new; err = E.contents err.new })) }
     // No other file is requested if it fails.
-    ensures refused { OnErr result (AsksFront (files_for (request_in (map (λ w. w.now) arguments.now)))
+    ensures refused { OnErr result (AsksFront (files_named (map (λ w. w.now) arguments.now))
         (F.asked files.old) (F.asked files.new)) }
     // After an error nothing was to be saved, but for the image if its lines, or why it isn't saved, can't be printed.
-    ensures failed { OnErr result (SavesAtMost
-        (SavesRead (request_in (map (λ w. w.now) arguments.now)) (F.asked files.old) (F.asked files.new))
+    ensures failed { OnErr result ((S.saved storage.new ≡ S.saved storage.old)
+        ⊎ SavesRead (map (λ w. w.now) arguments.now) (F.asked files.old) (F.asked files.new)
         (S.saved storage.old) (S.saved storage.new)) }
 {
-    match told(arguments) {
-        Some(text) => {
-            out.write_all(text.as_bytes())?;
-            Ok(0)
-        }
-        None => pack_asked(alloc, arguments, files, storage, out, err),
-    }
+    let outcome = outcome_for(alloc, arguments, files)?;
+    carry_out(outcome, storage, out, err)
 }

@@ -4,8 +4,10 @@
 use crate::checks::check;
 use acpi_cli::args_or_none;
 use acpi_cli::save::{SaveError, save};
+use acpi_cli::storage::HostStorage;
 use acpi_pack_lib::arguments::parse_command;
-use acpi_pack_lib::run::run;
+use acpi_pack_lib::outcome::Outcome;
+use acpi_pack_lib::program::carry_out;
 use std::alloc::Global;
 use std::io::{ErrorKind, Write};
 use std::test::Fail;
@@ -54,11 +56,19 @@ impl Write for Closed {
 
 #[test]
 fn a_line_that_cant_be_printed_fails(rt: HostRuntime) -> Result<(), Fail> {
-    // `acpi_pack` can't print which file it leaves out.
-    let facs = b"FACS\x24\0\0\0\0\0\0\0\0\0\0\0\0\0\0\0\0\0\0\0\0\0\0\0\0\0\0\0\0\0\0\0";
-    let asked = parse_command(rt.alloc(), &["out", "tables", "facs"])?;
-    let packed = run(rt.alloc(), &asked, &[Some(facs.as_slice())], &mut Closed).is_err();
-    check(&rt, "failed", packed, true);
+    // `acpi_pack` can't print which file it leaves out, and so saves nothing.
+    let asked = parse_command(rt.alloc(), &["unsaved", "tables", "facs"])?;
+    let command = asked.ok_or("no command")?;
+    let outcome = Outcome::Packed {
+        command,
+        left_out: String::from_str(rt.alloc(), "left out facs\n")?,
+        bytes: Vec::new(rt.alloc()),
+        lines: String::new(rt.alloc()),
+    };
+    let mut storage = HostStorage::new(&rt);
+    let done = carry_out(outcome, &mut storage, &mut Closed, &mut Closed);
+    let is_there = fs::exists(&rt, "unsaved").unwrap_or(true);
+    check(&rt, "failed", (done.is_err(), is_there), (true, false));
     Ok(())
 }
 

@@ -1,6 +1,10 @@
 // Made by scripts/erase of crates/acpi_pack_lib/src/help.rt, where it is proved.
 //! The help and the version that the program prints.
 
+/// The line on how the program packs.
+pub(crate) const USAGE: &str =
+    "usage: acpi_pack [--fix-checksum] [--raw] OUT memory ADDRESS FILE [ADDRESS FILE]... | tables FILE...\n";
+
 /// The text on how the program is called.
 const HELP: &str =
     "usage: acpi_pack [--fix-checksum] [--raw] OUT memory ADDRESS FILE [ADDRESS FILE]... | tables FILE...

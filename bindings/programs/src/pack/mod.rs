@@ -13,12 +13,12 @@ mod error;
 pub mod files;
 mod help;
 pub mod listing;
+pub mod outcome;
 mod pack;
 mod place;
 mod plain;
 pub mod program;
 mod reading;
-pub mod run;
 mod sources;
 mod sums;
 
