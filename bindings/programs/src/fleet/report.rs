@@ -181,13 +181,7 @@ fn document_of(difference: &Differing) -> Value {
 }
 
 /// Prints a document for each machine of a group.
-fn print_documents(
-    fleet: &Fleet,
-    rank: usize,
-    group: &Group,
-    found: &[Differing],
-    out: &mut impl Write,
-) -> Result<()> {
+fn print_documents(fleet: &Fleet, rank: usize, group: &Group, found: &[Differing], out: &mut impl Write) -> Result<()> {
     let differ: Value = found.iter().map(document_of).collect();
     for member in group.machines.iter().map(|machine| &fleet.members[*machine]) {
         if let Ok((_, tables, invalid)) = &member.found {
