@@ -36,6 +36,9 @@ members = [{members}]
 [profile.dev]
 debug = false
 opt-level = 1
+
+[profile.dev.package."*"]
+opt-level = 0
 '''
 MANIFEST = '''[package]
 name = "{name}"
