@@ -1,5 +1,5 @@
-/* Rows over tables in memory of their own: structures beyond a count, entries that are too short, a table above 4 GiB,
- * and an RSDP in the second area that is searched. */
+/* Rows over tables in memory of their own: structures beyond a count, entries that are too short, fields without a
+ * zero, a table and regions above 4 GiB, and an RSDP in the second area that is searched. */
 #ifndef ROWS_VALUES_H
 #define ROWS_VALUES_H
 
@@ -103,6 +103,15 @@ static void check_one_region(void) {
             check_own(&rows_of[i][k], &search, 0), check_own(&rows_of[i][k], &lent, 0);
         }
 }
+/* RSDPs of which a part is lent, before regions whose addresses have a lower half that is below theirs. */
+static void check_part_before_high(void) {
+    static const struct zacpi_region regions[] = {{BIOS, long_bios, 0x20}, {BIOS + 0x20, long_bios + 0x20, 0x1fff0},
+                                                  {0x100000000, top, 16}, {0x200000010, top, 16},
+                                                  {0x300000020, top, 16}};
+    static const struct zacpi_source source = {regions, 5, 0, ZACPI_START_SEARCH, 0};
+    const struct row missing_so = GOOD(list_missing_ranges, 0, NULL, NO, 1, 0xfffe0, 64);
+    check_own(&missing_so, &source, 0);
+}
 /* Without platform timers a Virtual EL2 Timer is where their Offset points to. */
 static void check_no_platform_timers(void) {
     static uint8_t bytes[40 + 104];
@@ -135,6 +144,45 @@ static void check_high_indexes(void) {
         if (is_there(high_rows[i].call->name)) check_rooms(&high_rows[i]);
 }
 
+/* A MADT of Arm's entries in which no two bytes of a field are the same, and none is 0. */
+PUTS(whole_fields,
+    {44, 2, HEADER(0x0c, 24)}, {44 + 4, 4, 0x14131211} /* GIC ID */,
+    {44 + 8, 8, 0x2827262524232221} /* Physical Base Address */, {44 + 16, 4, 0x34333231} /* System Vector Base */,
+    {44 + 20, 1, 3} /* GIC version */,
+    {68, 2, HEADER(0x0b, 82)}, {68 + 4, 4, 0x44434241} /* CPU Interface Number */,
+    {68 + 8, 4, 0x54535251} /* ACPI Processor UID */, {68 + 12, 4, 0xffffffff} /* Flags */,
+    {68 + 16, 4, 0x64636261} /* Parking Protocol Version */, {68 + 20, 4, 0x74737271} /* Performance Interrupt GSIV */,
+    {68 + 24, 8, 0x8887868584838281} /* Parked Address */, {68 + 32, 8, 0x9897969594939291} /* Physical Base Address */,
+    {68 + 40, 8, 0xa8a7a6a5a4a3a2a1} /* GICV */, {68 + 48, 8, 0xb8b7b6b5b4b3b2b1} /* GICH */,
+    {68 + 56, 4, 0xc4c3c2c1} /* VGIC Maintenance interrupt */, {68 + 60, 8, 0xd8d7d6d5d4d3d2d1} /* GICR Base Address */,
+    {68 + 68, 8, 0xe8e7e6e5e4e3e2e1} /* MPIDR */, {68 + 76, 1, 0xf1} /* Processor Power Efficiency Class */,
+    {68 + 78, 2, 0x1615} /* SPE overflow Interrupt */, {68 + 80, 2, 0x1817} /* TRBE Interrupt */,
+    {150, 2, HEADER(0x0e, 16)}, {150 + 4, 8, 0x2f2e2d2c2b2a2928} /* Discovery Range Base Address */,
+    {150 + 12, 4, 0x38373635} /* Discovery Range Length */,
+    {166, 2, HEADER(0x0f, 20)}, {166 + 4, 4, 0x48474645} /* GIC ITS ID */,
+    {166 + 8, 8, 0x5c5b5a5958575655} /* Physical Base Address */,
+    {186, 2, HEADER(0x0d, 24)}, {186 + 4, 4, 0x68676665} /* GIC MSI Frame ID */,
+    {186 + 8, 8, 0x7c7b7a7978777675} /* Physical Base Address */, {186 + 16, 4, 0xffffffff} /* Flags */,
+    {186 + 20, 2, 0x8a89} /* SPI Count */, {186 + 22, 2, 0x8c8b} /* SPI Base */);
+static void check_whole_fields(void) {
+    static uint8_t bytes[40 + 210];
+    static const struct zacpi_region regions[] = {{OWN, bytes, sizeof bytes}};
+    static const struct zacpi_source source = {regions, 1, OWN, ZACPI_START_RSDT, 0};
+    static const struct put root[] = {{36, 4, OWN + 40}, {0, 0, 0}};
+    static const struct table rsdt = {OWN, "RSDT", 1, 40, root}, whole = {OWN + 40, "APIC", 6, 210, whole_fields};
+    const struct row rows_of[] = {
+        GOOD(get_gic_distributor, 0, NULL, NO, 1, 0x2827262524232221, 0x14131211, 0x34333231, 3),
+        GOOD(list_gic_cpu_interfaces, 0, NULL, NO, 1, 0xe8e7e6e5e4e3e2e1, 0x8887868584838281, 0x9897969594939291,
+             0xa8a7a6a5a4a3a2a1, 0xb8b7b6b5b4b3b2b1, 0xd8d7d6d5d4d3d2d1, 0x44434241, 0x54535251, 0x74737271, 0xc4c3c2c1,
+             0x64636261, 0x1615, 0x1817, 1, 1, ZACPI_TRIGGER_EDGE, ZACPI_TRIGGER_EDGE, 0xf1),
+        GOOD(list_gic_redistributors, 0, NULL, NO, 1, 0x2f2e2d2c2b2a2928, 0x38373635),
+        GOOD(list_gic_translation_services, 0, NULL, NO, 1, 0x5c5b5a5958575655, 0x48474645),
+        GOOD(list_gic_msi_frames, 0, NULL, NO, 1, 0x7c7b7a7978777675, 0x68676665, 0x8c8b, 0x8a89, 1)};
+    size_t i;
+    lay_out_at(bytes, 40, &rsdt), lay_out_at(bytes + 40, 210, &whole);
+    for (i = 0; i < sizeof rows_of / sizeof *rows_of; i++) check_own(&rows_of[i], &source, 0);
+}
+
 static void check_values(void) {
     const struct zacpi_source source = {own_regions, 2, OWN, ZACPI_START_XSDT, 0};
     const struct zacpi_source search = {own_search, 3, 0, ZACPI_START_BIOS_SEARCH, 0};
@@ -149,7 +197,9 @@ static void check_values(void) {
     check_short_entries();
     check_long_rsdp();
     check_one_region();
+    check_part_before_high();
     check_no_platform_timers();
     check_high_indexes();
+    check_whole_fields();
 }
 #endif
