@@ -42,7 +42,8 @@ AML(aml_alias_of_up, 6, FOO, '^', '_', 'S', '5', '_', S5_OF_7_6);
 AML(aml_called, 8, FOO, 0x2e, FOO, BAR, 8, FOO, 0x2f, 1, BAR, S5_OF_7_6);
 
 /* Each form of an object, which defines no state: Alias, Name of each kind of data, Scope, Method, External, fields of
- * a buffer, Mutex, Event, regions, Field, Device, Processor, PowerResource, ThermalZone, IndexField, BankField. */
+ * a buffer, Mutex, Event, regions, Field, Device, Processor, PowerResource, ThermalZone, IndexField, BankField and
+ * Noop. */
 AML(object_alias, 6, FOO, BAR);
 AML(object_zero, 8, FOO, 0);
 AML(object_byte, 8, FOO, 10, 7);
@@ -68,6 +69,7 @@ AML(object_power, 0x5b, 0x84, 8, FOO, 0, 0, 0);
 AML(object_zone, 0x5b, 0x85, 5, FOO);
 AML(object_index, 0x5b, 0x86, 10, FOO, BAR, 1);
 AML(object_bank, 0x5b, 0x87, 12, FOO, BAR, 10, 2, 1);
+AML(object_noop, 0xa3);
 AML(object_data_region, 0x5b, 0x88, FOO, 13, 'A', 0, 13, 'B', 0, 13, 'C', 0);
 #define OBJECT(name) {object_##name, sizeof object_##name}
 static const struct {
@@ -77,7 +79,7 @@ static const struct {
                OBJECT(buffer), OBJECT(package), OBJECT(of_packages), OBJECT(scope), OBJECT(method), OBJECT(external),
                OBJECT(dword_field), OBJECT(field_of_bits), OBJECT(mutex), OBJECT(event), OBJECT(region), OBJECT(field),
                OBJECT(device), OBJECT(processor), OBJECT(power), OBJECT(zone), OBJECT(index), OBJECT(bank),
-               OBJECT(data_region)};
+               OBJECT(noop), OBJECT(data_region)};
 
 #define OF_AML(name, status, ...) {name, sizeof name, 5, status, {__VA_ARGS__}}
 #define INVALID(name) OF_AML(name, ZACPI_AML_INVALID, 0, 0)

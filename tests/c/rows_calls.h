@@ -236,15 +236,20 @@ LIST(list_ecam_ranges, ecam, of_ecam, )
 ONE(pci_ecam_address, uint64_t, eight_bytes, PCI_FUNCTION)
 ONE(get_interrupt_model, model, of_model, )
 ONE(get_local_apic, local_apic, of_local_apic, )
-/* Its argument is how many items less each list has room for; two lists of none are at no place. */
+/* Its argument is how many items less each list has room for; two lists of none are at no place. With 3 the lists have
+ * room for all, and are passed as of 2^32 items. */
 RUN(get_platform) {
     whole_model *all = to;
-    const size_t less = (size_t)r->arguments[0];
+    const size_t less = (size_t)r->arguments[0] % 3;
     struct zacpi_platform_lists lists = {all->processors, 5 - less, all->counts[0],
         less < 2 ? all->io_apics : NULL, 2 - less, all->counts[1], less < 2 ? all->overrides : NULL, 2 - less,
         all->counts[2], all->nmi_sources, 3 - less, all->counts[3], all->nmi_lines, 4 - less, all->counts[4]};
     zacpi_status status;
     (void)room, (void)count;
+    if (r->arguments[0] == 3 && SIZE_MAX > UINT32_MAX) {
+        lists.processors_capacity = lists.io_apics_capacity = lists.overrides_capacity = (zacpi_size)1 << 16 << 16;
+        lists.nmi_sources_capacity = lists.nmi_lines_capacity = lists.overrides_capacity;
+    }
     status = zacpi_get_platform(s, &all->model, &lists, named);
     all->counts[0] = lists.processors_count;
     all->counts[1] = lists.io_apics_count;

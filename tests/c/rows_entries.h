@@ -1,6 +1,6 @@
-/* Entries one by one: each polarity and trigger of a MADT's, GICC Affinities in a row, each length of a block of
- * general purpose events, AML that begins as a table does, and names that aren't ASCII. Each byte is worked out from
- * the layouts. For rows_written.h. */
+/* Entries one by one: each polarity and trigger of a MADT's, GICC Affinities in a row, ids that are too wide for the
+ * shorter of two entries, each length of a block of general purpose events, AML that begins as a table does, and names
+ * that aren't ASCII. Each byte is worked out from the layouts. For rows_written.h. */
 #ifndef ROWS_ENTRIES_H
 #define ROWS_ENTRIES_H
 
@@ -98,6 +98,41 @@ static void check_no_byte(unsigned width) {
     }
 }
 
+/* ---- Ids of which only the lowest byte would fit an entry of a Local APIC: they take one of an x2APIC ----------- */
+
+static void check_wide_domain(uint32_t wide) {
+    const struct zacpi_apic_domain domain = {wide, 0x04030201};
+    const struct zacpi_srat_contents given = {&domain, 1, NONE(domains_of_giccs), NONE(domains_of_memory)};
+    uint8_t bytes[72] = {0};
+    size_t *counted = paint_size(&out_count);
+    const zacpi_status got = zacpi_write_srat(ids, &given, (uint8_t *)paint(&out, 72), 72, counted);
+    memcpy(bytes, empty_srat_bytes, 48);
+    bytes[48] = 2, bytes[49] = 24; /* section 5.2.16.3 */
+    put(bytes + 48 + 4, 4, domain.domain), put(bytes + 48 + 8, 4, wide), put(bytes + 48 + 12, 4, 1);
+    check_bytes_of(got, ZACPI_OK, bytes, 72, counted, "a wide id", 0, wide);
+}
+static void check_wide_ids(void) {
+    size_t i;
+    for (i = 1; i <= 3; i++) {
+        const uint32_t wide = 5 + ((uint32_t)1 << 8 * i);
+        const struct zacpi_processor by_uid[] = {listed[0], {wide, 6, ZACPI_PROCESSOR_WAITING, 0, 0, 0}},
+                                     by_id[] = {listed[0], {6, wide, ZACPI_PROCESSOR_WAITING, 0, 0, 0}};
+        const struct zacpi_nmi_line line = {wide, 0, 1, ZACPI_POLARITY_BUS, ZACPI_TRIGGER_BUS};
+        struct zacpi_madt_contents of_uid = small_madt, of_id = small_madt, of_line = small_madt;
+        uint8_t entry[16] = {9, 16, [8] = 1}, line_entry[12] = {10, 12, [8] = 1}; /* 5.2.12.12 and 5.2.12.13 */
+        of_uid.processors = by_uid, of_uid.processors_length = 2;
+        of_id.processors = by_id, of_id.processors_length = 2;
+        of_line.nmi_lines = &line, of_line.nmi_lines_length = 1;
+        put(entry + 4, 4, 6), put(entry + 12, 4, wide);
+        check_entry(&of_uid, entry, 16, 1, wide);
+        put(entry + 4, 4, wide), put(entry + 12, 4, 6);
+        check_entry(&of_id, entry, 16, 1, wide);
+        put(line_entry + 4, 4, wide);
+        check_entry(&of_line, line_entry, 12, 1, wide);
+        check_wide_domain(wide);
+    }
+}
+
 /* ---- AML that begins with a Signature, and has a part of a Length that isn't its own ---------------------------- */
 
 static void check_front(size_t length) {
@@ -138,6 +173,7 @@ static void check_entries_written(void) {
     for (i = 0; i < sizeof tried; i++)
         for (k = 0; k < sizeof tried; k++) check_inti(tried[i], tried[k]);
     for (i = 0; i <= 3; i++) check_giccs(i);
+    check_wide_ids();
     for (i = 1; i <= 255; i++) check_event_lengths((uint8_t)i);
     for (i = 0; i < 8; i++) check_no_byte((unsigned)i);
     for (i = 0; i <= 8; i++) check_front(i);

@@ -2,6 +2,16 @@
 #ifndef ROWS_INTERRUPTS_H
 #define ROWS_INTERRUPTS_H
 
+#define WHOLE_PLATFORM(less) \
+    GOOD(get_platform, DESKTOP, NULL, A(less), 1, 0x1fee02000, 1, 2, 3, 4, 5, 1, 1, 5, 1, 2, 3, 4, \
+         0x21, 0x42, ZACPI_PROCESSOR_DISABLED, 1, 0, 0, 0x22, 0x44, ZACPI_PROCESSOR_WAITING, 0, 0, 0, \
+         0x567, 0x12345, ZACPI_PROCESSOR_WAITING, 0, 0, 1, 0x568, 0x12346, ZACPI_PROCESSOR_DISABLED, 0, 1, 1, \
+         0x23, 0x46, ZACPI_PROCESSOR_WAITING, 0, 1, 0, \
+         0xfec02000, 48, 9, PAINTED_IO_APIC, 37, 5, ZACPI_POLARITY_LOW, ZACPI_TRIGGER_LEVEL, 0, \
+         38, 12, ZACPI_POLARITY_HIGH, ZACPI_TRIGGER_BUS, 0, 50, ZACPI_POLARITY_HIGH, ZACPI_TRIGGER_EDGE, \
+         51, ZACPI_POLARITY_LOW, ZACPI_TRIGGER_LEVEL, 52, ZACPI_POLARITY_BUS, ZACPI_TRIGGER_LEVEL, \
+         0, 1, 1, AS_BUS, 0x22, 0, 0, AS_BUS, 0, 1, 0, AS_BUS, 0x567, 0, 1, AS_BUS)
+
 static const struct row interrupt_rows[] = {
     /* The last address of the local APICs; one I/O APIC, two overrides, three sources, four lines, five processors. */
     GOOD(get_interrupt_model, DESKTOP, NULL, NO, 1, 0x1fee02000, 1, 2, 3, 4, 5, 1, 1),
@@ -22,14 +32,7 @@ static const struct row interrupt_rows[] = {
     REFUSED(get_local_apic, EMPTY, NULL, NO, ZACPI_TABLE_MISSING, "APIC"),
     /* All of these at once: the model, how many processors, I/O APICs, overrides, sources and lines there are, and the
      * items; what lies past an item is as it was. */
-    GOOD(get_platform, DESKTOP, NULL, NO, 1, 0x1fee02000, 1, 2, 3, 4, 5, 1, 1, 5, 1, 2, 3, 4,
-         0x21, 0x42, ZACPI_PROCESSOR_DISABLED, 1, 0, 0, 0x22, 0x44, ZACPI_PROCESSOR_WAITING, 0, 0, 0,
-         0x567, 0x12345, ZACPI_PROCESSOR_WAITING, 0, 0, 1, 0x568, 0x12346, ZACPI_PROCESSOR_DISABLED, 0, 1, 1,
-         0x23, 0x46, ZACPI_PROCESSOR_WAITING, 0, 1, 0,
-         0xfec02000, 48, 9, PAINTED_IO_APIC, 37, 5, ZACPI_POLARITY_LOW, ZACPI_TRIGGER_LEVEL, 0,
-         38, 12, ZACPI_POLARITY_HIGH, ZACPI_TRIGGER_BUS, 0, 50, ZACPI_POLARITY_HIGH, ZACPI_TRIGGER_EDGE,
-         51, ZACPI_POLARITY_LOW, ZACPI_TRIGGER_LEVEL, 52, ZACPI_POLARITY_BUS, ZACPI_TRIGGER_LEVEL,
-         0, 1, 1, AS_BUS, 0x22, 0, 0, AS_BUS, 0, 1, 0, AS_BUS, 0x567, 0, 1, AS_BUS),
+    WHOLE_PLATFORM(0), WHOLE_PLATFORM(3),
     /* One item less of each: the I/O APIC has room. */
     GOOD(get_platform, DESKTOP, NULL, A(1), 1, 0x1fee02000, 1, 2, 3, 4, 5, 1, 1, 5, 1, 2, 3, 4,
          0x21, 0x42, ZACPI_PROCESSOR_DISABLED, 1, 0, 0, 0x22, 0x44, ZACPI_PROCESSOR_WAITING, 0, 0, 0,

@@ -281,6 +281,26 @@ static void check_all_laid(void) {
         check_laid(a_tree_of, lay_machine_of, "a tree of tables", &oem_table, sizeof oem_table, tables_of[i]);
 }
 
+/* An RHCT of so many harts that its Number of RHCT nodes has more than 16 bits. */
+static void check_more_harts(void) {
+    enum { HARTS = 65536, FRONT = 56 + 10 };
+    const size_t length = FRONT + 16 * (size_t)HARTS;
+    uint32_t *harts_of = (uint32_t *)(void *)pages(4 * (size_t)HARTS);
+    struct zacpi_rhct_contents given = rhct_without_isa;
+    uint8_t *to = (uint8_t *)painted_at_edge(length), *bytes = pages(length);
+    size_t *counted = paint_size(&out_count), i;
+    zacpi_status got;
+    memcpy(bytes, rhct_of_no_isa_bytes, FRONT), put(bytes + 4, 4, length), put(bytes + 48, 4, HARTS + 1);
+    for (i = 0; i < HARTS; i++) {
+        harts_of[i] = (uint32_t)i;
+        memcpy(bytes + FRONT + 16 * i, hart_entry, 16), put(bytes + FRONT + 16 * i + 8, 4, i);
+    }
+    sum_up(bytes, length);
+    given.harts = harts_of, given.harts_length = HARTS;
+    got = zacpi_write_rhct(ids, &given, to, length, counted);
+    result(!got && *counted == length && !memcmp(to, bytes, length), "more harts", 0, length, got);
+}
+
 static void check_all_many(void) {
     static const size_t counts[] = {1, 2, 3, 4, 5, 6, 7, 8, 9, 15, 16, 17, 31, 33, 254, 255, 256, 257};
     size_t i, k;
@@ -291,5 +311,6 @@ static void check_all_many(void) {
         for (k = 0; k < 3; k++) check_many_items(list, most + k);
     }
     check_all_laid();
+    check_more_harts();
 }
 #endif

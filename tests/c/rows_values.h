@@ -127,6 +127,32 @@ static void check_no_platform_timers(void) {
     check_own(&timers_so, &source, 0);
 }
 
+/* A GT Block whose Length has more than eight bits, of six frames, and with a Timer Count of each byte: more frames
+ * than it has are missing after its last one. */
+PUTS(long_block, {88, 4, 1} /* Platform Timer Count */, {92, 4, 104} /* Platform Timer Offset */,
+     {104 + 1, 2, 260} /* Length */, {104 + 16, 4, 20} /* GT Block Timer Offset */);
+static void check_gt_blocks(void) {
+    static const uint32_t counts[] = {6, 0x100, 0x10000, 0x1000000};
+    static uint8_t bytes[4][40 + 364];
+    static struct zacpi_region regions[4];
+    static const struct put root[] = {{36, 4, OWN + 40}, {0, 0, 0}};
+    static const struct table rsdt = {OWN, "RSDT", 1, 40, root}, gtdt_of_1 = {OWN + 40, "GTDT", 3, 364, long_block};
+    size_t i;
+    for (i = 0; i < 4; i++) {
+        const struct zacpi_source source = {&regions[i], 1, OWN, ZACPI_START_RSDT, 0};
+        const struct row timers_so = GOOD(get_arm_timers, 0, NULL, NO, 1, 0, 0, 0, 1, 3, 0, 1, 0, 1, 3, 0, 1,
+                                                 0, 1, 3, 0, 1, 0, 1, 3, 0, 1, 0, 1, 3, 0, 1, counts[i] != 6),
+                         none = NOTHING(list_gtdt_faults, 0),
+                         one = GOOD(list_gtdt_faults, 0, NULL, NO, 1, OWN + 40 + 364, ZACPI_INVALID_TIMER_LENGTH, 0);
+        lay_out_at(bytes[i], 40, &rsdt), lay_out_at(bytes[i] + 40, 364, &gtdt_of_1);
+        put(bytes[i] + 40 + 104 + 12, 4, counts[i]), bytes[i][40 + 9] = 0; /* GT Block Timer Count */
+        zacpi_set_checksum(bytes[i] + 40, 364);
+        regions[i].address = OWN, regions[i].bytes = bytes[i], regions[i].length = sizeof bytes[i];
+        check_own(&timers_so, &source, 0);
+        check_own(counts[i] == 6 ? &none : &one, &source, 0);
+    }
+}
+
 /* An index of 2^32 isn't 0, where a size_t has so many bits. */
 static void check_high_indexes(void) {
     const uint64_t high = (uint64_t)1 << 32;
@@ -199,6 +225,7 @@ static void check_values(void) {
     check_one_region();
     check_part_before_high();
     check_no_platform_timers();
+    check_gt_blocks();
     check_high_indexes();
     check_whole_fields();
 }
