@@ -191,6 +191,7 @@ static const struct row every_rows[] = {
     GOOD(list_missing_ranges, PART, NULL, NO, 1, 0x1234, 36), GOOD(list_missing_ranges, PART_X, NULL, NO, 1, 0x1234,
     36),
     GOOD(list_missing_ranges, LOW, NULL, NO, 2, 0x500, 36, BASE + SIZE - 20, 36),
+    GOOD(list_missing_ranges, PARTLY, NULL, NO, 2, PART_HPET, 56, PART_MADT, 52),
     GOOD(list_faults, PART, "OEM1", NO, 1, 0x1234, ZACPI_MAP_FAILED, 0),
     GOOD(list_faults, PART_X, "OEM1", NO, 1, 0x1234, ZACPI_MAP_FAILED, 0),
     GOOD(list_faults, LOW, "OEM1", NO, 2, 0x500, ZACPI_MAP_FAILED, 0, BASE + SIZE - 20, ZACPI_MAP_FAILED, 0),
