@@ -98,6 +98,23 @@ static void check_no_byte(unsigned width) {
     }
 }
 
+/* ---- A watchdog in whose fields no two bytes are the same (section 5.2.24.1.2) ----------------------------------- */
+
+static void check_whole_watchdog(void) {
+    const struct zacpi_platform_timer watchdog = {1, 0, NULL, 0, {0x1817161514131211, 0x2827262524232221, 0x34333231,
+                                                  ZACPI_POLARITY_LOW, ZACPI_TRIGGER_EDGE, 1}};
+    struct zacpi_gtdt_contents given = all_timers;
+    uint8_t bytes[132] = {0};
+    size_t *counted = paint_size(&out_count);
+    zacpi_status got;
+    given.platform_timers = &watchdog, given.platform_timers_length = 1;
+    got = zacpi_write_gtdt(ids, &given, (uint8_t *)paint(&out, 132), 132, counted);
+    memcpy(bytes, gtdt_bytes, 104), put(bytes + 88, 4, 1), put(bytes + 104, 3, 28 << 8 | 1);
+    put(bytes + 108, 8, watchdog.watchdog.refresh_frame), put(bytes + 116, 8, watchdog.watchdog.control_frame);
+    put(bytes + 124, 4, watchdog.watchdog.interrupt), bytes[128] = 7; /* edge, active low, secure */
+    check_bytes_of(got, ZACPI_OK, bytes, 132, counted, "a watchdog", 0, 0);
+}
+
 /* ---- Ids of which only the lowest byte would fit an entry of a Local APIC: they take one of an x2APIC ----------- */
 
 static void check_wide_domain(uint32_t wide) {
@@ -174,6 +191,7 @@ static void check_entries_written(void) {
         for (k = 0; k < sizeof tried; k++) check_inti(tried[i], tried[k]);
     for (i = 0; i <= 3; i++) check_giccs(i);
     check_wide_ids();
+    check_whole_watchdog();
     for (i = 1; i <= 255; i++) check_event_lengths((uint8_t)i);
     for (i = 0; i < 8; i++) check_no_byte((unsigned)i);
     for (i = 0; i <= 8; i++) check_front(i);

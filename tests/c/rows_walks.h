@@ -89,7 +89,7 @@ static void add_empty(struct walk *walk, const struct walked *of, unsigned type,
     put(entry + of->length_at, of->length_width, length);
     walk->length += length;
 }
-static uint64_t walk_argument; /* the first of the call's */
+static uint64_t walk_argument; /* the first of the call's; where a device is asked for, it is 01.2 on bus 0 */
 /* What a call returns of them: status, how many items, and all that it wrote. */
 struct returned {
     zacpi_status status;
@@ -102,7 +102,7 @@ enum { ROOM = 8 };
 static uint64_t walked_at = 0x2000;
 static void returned_by(const struct call *call, const uint8_t *table, size_t length, struct returned *to) {
     uint8_t xsdt[44] = {'X', 'S', 'D', 'T', 44, [8] = 1};
-    const struct row asked = {call, 0, NULL, {walk_argument, 0, 0, 0}, ZACPI_OK, NULL, 0, NULL, 0};
+    const struct row asked = {call, 0, NULL, {walk_argument, 0, 1, 0x201}, ZACPI_OK, NULL, 0, NULL, 0};
     const struct zacpi_region regions[] = {{0x1000, xsdt, 44}, {walked_at, table, length}, {0xf00000000, top, 16}};
     struct zacpi_source source = {NULL, 3, 0x1000, ZACPI_START_XSDT, accept};
     size_t *count = paint_size(&out_count);
@@ -189,6 +189,7 @@ static const struct finder {
     FINDER(get_dmar_unit, dmar, unit_of_all, 0, 0, 0, 0), FINDER(get_dmar_io_apic, dmar, unit_of_io_apic, 9, 0, 0, 0),
     FINDER(get_dmar_hpet, dmar, unit_of_hpet, 9, 0, 0, 0), FINDER(list_dmar_scopes, dmar, unit_of_io_apic, 0, 0, 0, 0),
     FINDER(list_dmar_structure_scopes, dmar, range_of_all, 1, 1, 1, 1),
+    FINDER(list_dmar_reserved, dmar, range_of_all, 0, 1, 1, 1),
     FINDER(get_ivrs_unit, ivrs, block_10_of_all, 0, 0x10, 0x11, 0x40),
     FINDER(get_ivrs_unit, ivrs, block_11_of_all, 0, 0x10, 0x11, 0x40),
     FINDER(get_ivrs_unit, ivrs, block_40_of_all, 0, 0x11, 0x40, 0x40),
@@ -224,6 +225,26 @@ static void check_finder(const struct finder *finder) {
         result(returns_same(walker->call, &got, &other), walker->call->name, (int)type, least - 1, got.status);
     }
     walk_argument = 0;
+}
+
+/* Device entries for device 0 of which the last bytes are missing: one, one with an alias, one with extended settings,
+ * and one by its ACPI HID (section 5.2 of the AMD specification). */
+static void check_cut_devices(void) {
+    static const uint8_t entries[][24] = {{2}, {0x42, [5] = 9}, {0x46, [4] = 1},
+                                          {0xf0, [4] = 'A', 'B', 'C', '0', '0', '0', '0', '1', [20] = 1, 2, 7}};
+    static const uint8_t sizes[] = {4, 8, 8, 24};
+    static struct walk walk;
+    static struct returned got;
+    size_t i, k;
+    for (i = 0; i < sizeof sizes; i++)
+        for (k = 0; k <= sizes[i]; k++) {
+            const zacpi_status cut_short = k ? ZACPI_IOMMU_INVALID_STRUCTURE_LENGTH : ZACPI_NO_IOMMU;
+            begin_walk(&walk, &walked_ivrs), add_empty(&walk, &walked_ivrs, 0x10, 24, 0);
+            put(walk.bytes + 48 + 2, 2, 24 + k), add_entry(&walk, entries[i], k);
+            walk_over(&walk, &call_get_ivrs_unit, 0, &got);
+            result(got.status == (k < sizes[i] ? cut_short : (zacpi_status)ZACPI_OK), "a cut entry", (int)i, k,
+                   got.status);
+        }
 }
 
 /* Of one entry that ends where the table does, or a little before or after it, with bytes in it that may be entries:
@@ -286,7 +307,10 @@ static void check_walks(void) {
     for (i = 0; i < sizeof walkers / sizeof *walkers; i++)
         if (is_there(walkers[i].call->name)) check_walker(walkers + i);
     for (i = 0; i < sizeof finders / sizeof *finders; i++)
-        if (is_there(finders[i].walker.call->name)) check_finder(finders + i);
+        for (has_gicd = 0; has_gicd < 2; has_gicd++)
+            if (is_there(finders[i].walker.call->name)) check_finder(finders + i);
+    has_gicd = 1;
+    if (is_there("get_ivrs_unit")) check_cut_devices();
     for (i = 0; i < sizeof enders / sizeof *enders; i++) {
         const struct walked *of = enders[i].of;
         unsigned type;
