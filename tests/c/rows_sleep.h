@@ -36,6 +36,30 @@ static void check_objects(void) {
         }
 }
 
+/* Each character at each place of a name's segment: of one alone, of the second of two, and of one that is counted
+ * (section 20.2.2). Left out as its first is what a name begins with otherwise. */
+static void check_letters(void) {
+    static const uint8_t fronts_of_names[][6] = {{8}, {8, 0x2e, FOO}, {8, 0x2f, 1}}, name[] = {0, S5_OF_7_6};
+    static const uint8_t lengths[] = {1, 6, 3};
+    uint8_t aml[10 + sizeof name];
+    size_t i, place;
+    unsigned letter;
+    for (i = 0; i < sizeof lengths; i++)
+        for (place = 0; place < 4; place++)
+            for (letter = 0; letter < 256; letter++) {
+                const int is_lead = ('A' <= letter && letter <= 'Z') || letter == '_';
+                const int holds = is_lead || (place && '0' <= letter && letter <= '9');
+                struct state_row row = {aml, lengths[i] + 4u + sizeof name, 5, ZACPI_AML_INVALID, {0, 0}};
+                if (i == 0 && place == 0 && (letter == 0 || letter == '\\' || letter == '^' || letter >> 1 == 0x17))
+                    continue;
+                memcpy(aml, fronts_of_names[i], 6), memcpy(aml + lengths[i], "FOO_", 4);
+                aml[lengths[i] + place] = (uint8_t)letter;
+                memcpy(aml + lengths[i] + 4, name, sizeof name);
+                if (holds) row.status = ZACPI_OK, row.types.a = 7, row.types.b = 6;
+                check_state(&row, 12000 + 10 * i + place);
+            }
+}
+
 /* ---- Opcodes ---------------------------------------------------------------------------------------------------- */
 
 struct opcodes {
@@ -86,6 +110,7 @@ static void check_opcode(unsigned code) {
 static void check_states(void) {
     size_t i;
     check_objects();
+    check_letters();
     for (i = 0; i < 0x100; i++) check_opcode((unsigned)i), check_opcode(0x5b00 + (unsigned)i);
     for (i = 0; i < sizeof states / sizeof *states; i++) check_state(states + i, i);
     for (i = 0; i < sizeof more_states / sizeof *more_states; i++) check_state(more_states + i, 10000 + i);
