@@ -196,7 +196,7 @@ static void check_large_machine(void) {
  * RSDP, the XSDT and the DSDT have 48 bytes each. */
 static void check_first_of_many(void) {
     static const unsigned shifts[] = {1, 8, 16, 24, 32, 40, 48, 56};
-    const struct zacpi_aml_contents dsdt = {NULL, 0, 2};
+    const struct zacpi_aml_contents dsdt = {tpm2_body, 0, 2};
     size_t i;
     for (i = 0; i < sizeof shifts / sizeof *shifts; i++) {
         const zacpi_size many = (zacpi_size)1 << shifts[i];
