@@ -1,6 +1,7 @@
 //! What differs between the tables of two inputs.
 
 pub mod code;
+mod known;
 mod objects;
 mod pairs;
 mod pieces;
@@ -10,7 +11,8 @@ use acpi_dump_code::Known as Names;
 use acpi_dump_input::entries::{Entry, print_name};
 use acpi_dump_walk::out::Out;
 use code::{Code, names_in};
-use objects::{Known, changes_of};
+use known::Known;
+use objects::changes_of;
 use pairs::pairs_of;
 use std::alloc::{AllocError, Global};
 

@@ -2,6 +2,7 @@
 //! What differs between the tables of two inputs.
 
 pub mod code;
+mod known;
 mod objects;
 mod pairs;
 mod pieces;
@@ -13,7 +14,8 @@ use crate::rattle::Vec;
 use crate::rattle::alloc::{AllocError, Global};
 use crate::walk::out::Out;
 use code::{Code, names_in};
-use objects::{Known, changes_of};
+use known::Known;
+use objects::changes_of;
 use pairs::pairs_of;
 
 /// What a structure or an object is called.

@@ -1,6 +1,8 @@
 // Made by scripts/erase of crates/acpi_dump_lib/src/arguments.rt, where it is proved.
 //! The arguments of the program.
 
+mod words;
+
 use crate::arguments::ArgMatches;
 use crate::cli::parse_address;
 use crate::cli::root::{Root, parse_root};
@@ -16,6 +18,7 @@ use crate::input::kind::{Kind, parse_kind};
 use crate::input::read::Reading;
 use crate::rattle::Vec;
 use crate::rattle::alloc::{AllocError, Global};
+use words::{checked, is_there, name_of, root_words, word_of, words_of};
 use zacpi::sdt::Signature;
 
 /// The part of an input that is shown.
@@ -88,61 +91,6 @@ const VIEWS: [(&str, View); 4] =
 const ONE_VIEW: &str = "[--table SIG].. [--hex SIG].. | --get VALUE.. | --text [--table SIG].. | \
      --extract DIR [--table SIG].. | [--check] --html FILE | --summary | --find | \
      --compare [--html FILE] | --check | --rules";
-
-/// The word of an option, or no letters, which are no value of any, if it isn't there.
-fn word_of<'w>(matches: &ArgMatches<'w>, option: &str) -> &'w str {
-    matches.get_str(option).unwrap_or("")
-}
-
-/// The value of an option, if it is there and has letters.
-fn name_of<'w>(matches: &ArgMatches<'w>, option: &str) -> Option<&'w str> {
-    match word_of(matches, option) {
-        "" => None,
-        name => Some(name),
-    }
-}
-
-/// The value that the word of an option has.
-///
-/// Fails, after printing that, if the word is there and has none.
-fn checked<T: Copy>(
-    matches: &ArgMatches<'_>,
-    log: &mut Log,
-    option: &'static str,
-    value: Option<T>,
-) -> Result<Option<T>, Stop> {
-    match matches.get_str(option) {
-        Some(word) if value.is_none() => Err(refuse_option(log, option, word)),
-        _ => Ok(value),
-    }
-}
-
-/// Whether an option is there that takes no value, or may have one.
-fn is_there(matches: &ArgMatches<'_>, option: &str) -> bool {
-    match matches.get_str(option) {
-        Some("false") | None => matches.get_flag(option),
-        Some(_) => true,
-    }
-}
-
-/// Whether a way to the root table begins with a word.
-fn is_form(word: &str) -> bool {
-    matches!(word, "rsdt" | "rsdp" | "bios")
-}
-
-/// The words after the first one if they begin as a way to the root table, after the first of them.
-fn root_words<'w>(words: &'w [&'w str]) -> Option<(&'w str, &'w [&'w str])> {
-    let [_, rest @ ..] = words else {
-        return None;
-    };
-    let [form, ..] = rest else {
-        return None;
-    };
-    if is_form(*form) {
-        return Some((*form, rest));
-    }
-    None
-}
 
 impl Request<'_> {
     /// Adds a choice: the tables of a signature, or all.
@@ -247,27 +195,23 @@ impl Request<'_> {
         let is_compared = matches!(self.view, View::Differences);
         let are_saved = self.folder.is_some() || self.page.is_some();
         let are_chosen = matches!(self.view, View::Tables) && matches.get_strs("table").is_some();
+        let are_listed = are_chosen && !matches.get_flag("text");
         let are_lines = is_checked && self.page.is_none() && !self.is_json;
         let options = [
-            (
-                "code",
-                matches.get_flag("code"),
-                are_chosen && !matches.get_flag("text"),
-                "it is for --table, without --text",
-            ),
-            ("ignore", !self.ignored.is_empty(), is_compared, "it is for --compare"),
-            ("exit-code", self.is_exit_code, is_compared, "it is for --compare"),
-            ("force", self.is_forced, are_saved, "it is for --extract and --html"),
-            ("base", matches.get_str("base").is_some(), false, "it is for --fleet"),
-            ("alike", matches.get_flag("alike"), false, "it is for --fleet"),
-            ("baseline", self.baseline.is_some(), is_checked, "it is for --check"),
-            ("ignore-rules", self.accepted.is_some(), is_checked, "it is for --check"),
-            ("format", matches.get_str("format").is_some(), are_lines, "it is for --check, without --html or --json"),
-            ("sort", matches.get_str("sort").is_some(), is_checked, "it is for --check"),
+            ("code", matches.get_flag("code"), are_listed),
+            ("ignore", !self.ignored.is_empty(), is_compared),
+            ("exit-code", self.is_exit_code, is_compared),
+            ("force", self.is_forced, are_saved),
+            ("base", matches.get_str("base").is_some(), false),
+            ("alike", matches.get_flag("alike"), false),
+            ("baseline", self.baseline.is_some(), is_checked),
+            ("ignore-rules", self.accepted.is_some(), is_checked),
+            ("format", matches.get_str("format").is_some(), are_lines),
+            ("sort", matches.get_str("sort").is_some(), is_checked),
         ];
-        for (option, is_there, has_view, why) in &options {
+        for (option, is_there, has_view) in &options {
             if *is_there && !*has_view {
-                return Some((*option, *why));
+                return Some((*option, view_for(*option)));
             }
         }
         None
@@ -291,9 +235,16 @@ impl Request<'_> {
     }
 }
 
-/// The words of an option that may come several times.
-fn words_of<'m>(matches: &'m ArgMatches<'_>, option: &str) -> &'m [&'m str] {
-    matches.get_strs(option).unwrap_or(&[])
+/// The view that an option is for.
+fn view_for(option: &str) -> &'static str {
+    match option {
+        "code" => "it is for --table, without --text",
+        "ignore" | "exit-code" => "it is for --compare",
+        "force" => "it is for --extract and --html",
+        "base" | "alike" => "it is for --fleet",
+        "format" => "it is for --check, without --html or --json",
+        _ => "it is for --check",
+    }
 }
 
 /// Whether a word requests a value in the RSDP.

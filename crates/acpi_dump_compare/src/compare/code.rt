@@ -1,6 +1,6 @@
 //! The lines of methods' code that differ.
 
-use super::objects::Known;
+use super::known::Known;
 use acpi::PhysicalRecord;
 use acpi::sdt::SdtHeader;
 use acpi_dump_code::changes::{Lines, ShowLines, show_changes};

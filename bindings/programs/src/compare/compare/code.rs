@@ -1,7 +1,7 @@
 // Made by scripts/erase of crates/acpi_dump_compare/src/compare/code.rt, where it is proved.
 //! The lines of methods' code that differ.
 
-use super::objects::Known;
+use super::known::Known;
 use crate::code::changes::{Lines, ShowLines, show_changes};
 use crate::code::{Extent, Known as Names, Paths, paths_of};
 use crate::input::entries::Entry;
