@@ -3,6 +3,7 @@
 //! A text from a table, a file's name or an option comes to the page by `escape` alone.
 
 mod bytes;
+mod code;
 mod drawn;
 mod escape;
 mod findings;
@@ -20,6 +21,8 @@ mod table;
 mod tile;
 mod values;
 
+use acpi_dump_code::Known as Names;
+use acpi_dump_compare::compare::code::names_in;
 use acpi_dump_compare::compare::{differences, same_in};
 use acpi_dump_compare::outline::{Items, Side, items_of};
 use acpi_dump_input::entries::Entry;
@@ -83,6 +86,8 @@ fn outlines_of<'t>(alloc: Global, entries: &[Entry<'t>]) -> Result<Vec<Items<'t>
 struct Outlined<'p> {
     entries: &'p [Entry<'p>],
     outlines: &'p [Items<'p>],
+    /// What names stand for in all of them.
+    names: &'p Names<'p>,
 }
 
 /// Adds the tables of an input as a page shows them beside those of the other one, if it is the first of two only those
@@ -100,7 +105,7 @@ fn add_sheets<'p>(
             continue;
         }
         let id = Id::of(entry, own.entries.get(..number).unwrap_or(&[]), is_first);
-        let mut sheet = sheet_of(source, entry, items.side()?, id, number)?;
+        let mut sheet = sheet_of(source, own.names, entry, items.side()?, id, number)?;
         if let Some(place) = place
             && let Some(old) = other.outlines.get(place)
         {
@@ -114,6 +119,7 @@ fn add_sheets<'p>(
 /// The table of this number of an input, as a page shows it if the other one hasn't got it.
 fn sheet_of<'p>(
     source: Source<'p>,
+    names: &'p Names<'p>,
     entry: &'p Entry<'p>,
     side: Side<'p>,
     id: Id,
@@ -134,6 +140,7 @@ fn sheet_of<'p>(
         id,
         signature: signature_of(entry),
         side,
+        names,
         marks: marks_of(source.alloc, side, number, findings)?,
         findings: source.findings,
         standing,
@@ -162,24 +169,32 @@ fn compare_with<'p>(
 pub fn print_page(source: Source<'_>, out: &mut Out) -> Result<(), AllocError> {
     let outlines = outlines_of(source.alloc, source.input.entries)?;
     let old_outlines = outlines_of(source.alloc, source.old())?;
-    print_outlined(source, &outlines, &old_outlines, out)
+    let paths = names_in(source.alloc, source.input.entries)?;
+    let old_paths = names_in(source.alloc, source.old())?;
+    let names = Names::new(source.alloc, &paths)?;
+    let old_names = Names::new(source.alloc, &old_paths)?;
+    print_outlined(source, &outlines, &old_outlines, &names, &old_names, out)
 }
 
-/// Prints the page of the tables of the input, and of the first one's that aren't in it, by their structures and
-/// fields.
+/// Prints the page of the tables of the input, and of the first one's that aren't in it, by the structures and fields
+/// of both, and what names stand for in them.
 fn print_outlined<'p>(
     source: Source<'p>,
     outlines: &'p [Items<'p>],
     old_outlines: &'p [Items<'p>],
+    names: &'p Names<'p>,
+    old_names: &'p Names<'p>,
     out: &mut Out,
 ) -> Result<(), AllocError> {
     let new = Outlined {
         entries: source.input.entries,
         outlines,
+        names,
     };
     let old = Outlined {
         entries: source.old(),
         outlines: old_outlines,
+        names: old_names,
     };
     let mut sheets = Vec::new(source.alloc);
     add_sheets(source, new, old, false, &mut sheets)?;

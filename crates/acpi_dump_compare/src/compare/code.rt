@@ -109,7 +109,7 @@ impl ShowLines for CodeChanges {
 }
 
 /// The segments of a path that is printed.
-fn segments_of(alloc: Global, path: &str) -> Result<Vec<u8>, AllocError> {
+pub fn segments_of(alloc: Global, path: &str) -> Result<Vec<u8>, AllocError> {
     let mut segments = Vec::new(alloc);
     for byte in path.as_bytes() {
         if !matches!(*byte, b'\\' | b'.') {
@@ -177,7 +177,7 @@ impl CodeChanges {
 }
 
 /// The names that the tables of an input define.
-pub(super) fn names_in(alloc: Global, entries: &[Entry<'_>]) -> Result<Paths, AllocError> {
+pub fn names_in(alloc: Global, entries: &[Entry<'_>]) -> Result<Paths, AllocError> {
     let mut tables = Vec::new(alloc);
     for entry in entries {
         if let Some(signature) = entry.signature()

@@ -4,6 +4,7 @@ use super::escape::Piece;
 use super::ids::Id;
 use super::marks::{Change, Mark, Marks};
 use acpi::sdt::Signature;
+use acpi_dump_code::Known as Names;
 use acpi_dump_compare::outline::{Item, Side};
 use acpi_dump_input::entries::Entry;
 use acpi_dump_input::judgement::Judgement;
@@ -41,6 +42,8 @@ pub(super) struct Sheet<'p> {
     pub(super) signature: Signature,
     /// Its structures and fields, by the layout of its signature.
     pub(super) side: Side<'p>,
+    /// What the names in AML stand for.
+    pub(super) names: &'p Names<'p>,
     pub(super) marks: Marks,
     /// What rules find in all tables.
     pub(super) findings: &'p Judgement,

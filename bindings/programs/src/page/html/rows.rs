@@ -1,6 +1,7 @@
 // Made by scripts/erase of crates/acpi_dump_page/src/html/rows.rt, where it is proved.
 //! The fields of a table: a row for each, in folds by the structures that they are in.
 
+use super::code::print_code;
 use super::escape::Piece::{Bytes, Decimal, Digits, Hex, Id, Name, Offset, Text, Value};
 use super::escape::{print_html, word_if};
 use super::findings::print_findings_of;
@@ -53,6 +54,7 @@ pub(super) fn print_rows<'p>(sheet: &Sheet<'p>, sheets: &[Sheet<'p>], out: &mut 
     for (place, item) in sheet.side.items.iter().enumerate() {
         rows.begin_parts(place, item);
         rows.item(place, item);
+        rows.code(item);
     }
     rows.close_to(0);
     rows.end();
@@ -222,6 +224,11 @@ impl Rows<'_, '_, '_> {
             print_value(sheet.side, item, target, self.out)
         }
         print_findings_of(sheet.findings, mark.findings, self.out)
+    }
+
+    /// Prints the operations of the object that an item is, if that is a method.
+    fn code(&mut self, item: &Item) {
+        print_code(self.sheet, item, self.out)
     }
 
     /// The table that a field has the address of, if it is on the page.

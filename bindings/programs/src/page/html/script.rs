@@ -2,7 +2,7 @@
 //! The script of a page. Without it the links, the folds and the bytes are there too.
 
 /// The SHA-256 of the script, in base64, which scripts/check/html compares with it.
-pub(super) const SCRIPT_HASH: &str = "g7Bxd9MxE7HCMTOT6SCXL0/FhxxdV5fnj+6Xfu3YYzQ=";
+pub(super) const SCRIPT_HASH: &str = "FTn/ON6D92EYYuIPix4tOxQJG3lE6V1Tp7toyMXDIGk=";
 
 /// The script: what is under the pointer or has the focus is marked with its bytes, and the other way round.
 pub(super) const SCRIPT: &str = r#"
@@ -26,7 +26,7 @@ function show(pane, e) {
   else if (r.left < p.left + 8) pane.scrollLeft = 0;
 }
 function bytes(t, from, to) {
-  const pane = t.querySelector("pre");
+  const pane = t.querySelector(".bs pre");
   let first = null;
   for (const i of pane.querySelectorAll("i")) {
     const o = offset(i);

@@ -2,7 +2,7 @@
 //! The style of a page.
 
 /// The SHA-256 of the style, in base64, which scripts/check/html compares with it.
-pub(super) const STYLE_HASH: &str = "vm0eOw1ZSM1/mqXM5/mLGoDhJBG9JHxkOXNffq7d2DM=";
+pub(super) const STYLE_HASH: &str = "zhvpJtoW9K7pA3DaBTdirg/+eFn4p/EKmoDZ8sX07OY=";
 
 /// The style: the colours stand at its front, and are other ones in the dark.
 pub(super) const STYLE: &str = r#"
@@ -99,6 +99,7 @@ font:12.5px var(--mono);color:var(--dim);white-space:nowrap;overflow:hidden;text
 .bs pre{margin:.2rem 0 0;padding:.5rem .8rem;background:var(--soft);border-radius:8px;overflow:auto;
 font-size:12.5px;min-height:0}.bs pre b{font-weight:400;color:var(--dim)}.bs i{font-style:normal;cursor:pointer}
 .old summary{margin-top:.5rem;font-size:13px;color:var(--dim)}.old pre{max-height:16rem}
+.code pre{margin:.2rem 0;white-space:pre-wrap}.code summary{font-size:13px;color:var(--dim)}
 .on,.fl .on>*,summary.on{background:var(--mark)!important;color:var(--markink)!important}.fl .on a,.fl .on>*,
 .on small,.on span,.bs .on ins{color:var(--markink)!important}.bs .on ins{background:none}.bs .on{
 box-shadow:0 0 0 2px var(--mark);border-radius:1px}
