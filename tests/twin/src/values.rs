@@ -4,8 +4,8 @@ use crate::memory::shared;
 use crate::random::Random;
 use crate::words::{Field, Record, number, put};
 
-/// How much memory the inputs have, and the outputs of each side: a table that is written may have more than 64 KiB.
-pub const CAPACITY: usize = 1 << 18;
+/// How much memory the inputs have, and the outputs of each side: a case may write several tables above 64 KiB.
+pub const CAPACITY: usize = 1 << 19;
 
 /// Memory that is aligned for every record.
 pub struct Arena(*mut u8);
