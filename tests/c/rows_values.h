@@ -209,6 +209,39 @@ static void check_whole_fields(void) {
     for (i = 0; i < sizeof rows_of / sizeof *rows_of; i++) check_own(&rows_of[i], &source, 0);
 }
 
+/* An I/O APIC whose base, and an override whose interrupt, have more than 16 bits. */
+PUTS(high_pins,
+     {44, 2, HEADER(1, 12)}, {44 + 2, 1, 2} /* I/O APIC ID */, {44 + 4, 4, 0xfec00000} /* I/O APIC Address */,
+     {44 + 8, 4, 0x12345670} /* Global System Interrupt Base */,
+     {56, 2, HEADER(2, 10)}, {56 + 3, 1, 5} /* Source */, {56 + 4, 4, 0x12345678} /* Global System Interrupt */);
+static void check_high_pins(void) {
+    static uint8_t bytes[40 + 66];
+    static const struct zacpi_region regions[] = {{OWN, bytes, sizeof bytes}};
+    static const struct zacpi_source source = {regions, 1, OWN, ZACPI_START_RSDT, 0};
+    static const struct put root[] = {{36, 4, OWN + 40}, {0, 0, 0}};
+    static const struct table rsdt = {OWN, "RSDT", 1, 40, root}, madt = {OWN + 40, "APIC", 5, 66, high_pins};
+    const struct row routes = GOOD(get_isa_interrupts, 0, NULL, NO, 16, UNPINNED(0), UNPINNED(1), UNPINNED(2),
+                                   UNPINNED(3), UNPINNED(4), 0x12345678, ZACPI_POLARITY_HIGH, ZACPI_TRIGGER_EDGE,
+                                   0xfec00000, 0x12345670, 2, 8, 1, 1, UNPINNED(6), UNPINNED(7), UNPINNED(8),
+                                   UNPINNED(9), UNPINNED(10), UNPINNED(11), UNPINNED(12), UNPINNED(13), UNPINNED(14),
+                                   UNPINNED(15));
+    lay_out_at(bytes, 40, &rsdt), lay_out_at(bytes + 40, 66, &madt);
+    check_own(&routes, &source, 0);
+}
+
+/* A table whose Length has more than 16 bits. */
+static void check_long_table(void) {
+    static uint8_t bytes[40 + 0x12345];
+    static const struct zacpi_region regions[] = {{OWN, bytes, sizeof bytes}};
+    static const struct zacpi_source source = {regions, 1, OWN, ZACPI_START_RSDT, 0};
+    static const struct put root[] = {{36, 4, OWN + 40}, {0, 0, 0}};
+    static const struct table rsdt = {OWN, "RSDT", 1, 40, root}, oem = {OWN + 40, "OEM1", 1, 0x12345, no_fields};
+    const struct row found = GOOD(find_nth_table, 0, "OEM1", A(0), 1, OWN + 40, 0x12345, LETTERS('O', 'E', 'M', '1'), 1,
+                                  NO_IDS);
+    lay_out_at(bytes, 40, &rsdt), lay_out_at(bytes + 40, 0x12345, &oem);
+    check_own(&found, &source, 0);
+}
+
 static void check_values(void) {
     const struct zacpi_source source = {own_regions, 2, OWN, ZACPI_START_XSDT, 0};
     const struct zacpi_source search = {own_search, 3, 0, ZACPI_START_BIOS_SEARCH, 0};
@@ -228,5 +261,7 @@ static void check_values(void) {
     check_gt_blocks();
     check_high_indexes();
     check_whole_fields();
+    check_high_pins();
+    check_long_table();
 }
 #endif
