@@ -128,6 +128,30 @@ static void check_many(void) {
     result(next == MANY - 1 && count == 3510, "list_processor_affinities_from", MANY, count, 0);
 }
 
+/* Their headers, whose Length, at 4, has four bytes (section 5.2.6): 44 + 16 * 4,096 bytes, and 48 + 24 * 4,096. */
+#define MADT_OF_MANY MANY_MADT, 65580, LETTERS('A', 'P', 'I', 'C'), 5, NO_IDS
+#define SRAT_OF_MANY MANY_SRAT, 98352, LETTERS('S', 'R', 'A', 'T'), 3, NO_IDS
+static const struct row many_rows[] = {
+    GOOD(list_tables, EMPTY, NULL, NO, 2, MADT_OF_MANY, SRAT_OF_MANY),
+    GOOD(list_members, EMPTY, NULL, NO, 2, MADT_OF_MANY, 0, 1, SRAT_OF_MANY, 0, 1),
+    GOOD(list_ranges, EMPTY, NULL, NO, 3, MANY_ROOT, 44, MANY_MADT, 65580, MANY_SRAT, 98352),
+    GOOD(find_table, EMPTY, "SRAT", NO, 1, SRAT_OF_MANY),
+    GOOD(find_nth_table, EMPTY, "APIC", A(0), 1, MADT_OF_MANY)};
+static void check_many_tables(void) {
+    const struct zacpi_source source = source_of_many();
+    size_t i;
+    for (i = 0; i < sizeof many_rows / sizeof *many_rows; i++) {
+        const struct row *row = many_rows + i;
+        struct zacpi_signature named = {{'?', '?', '?', '?'}};
+        size_t *const count = paint_size(&out_count);
+        zacpi_status got;
+        if (!is_there(row->call->name)) continue;
+        got = row->call->run(row, &source, paint(&out, row->count * row->call->size), row->count, count, &named);
+        result(!got && *count == (row->call->is_list ? row->count : UNCOUNTED)
+               && is_written(row->call, row->values, row->count), row->call->name, MANY, i, got);
+    }
+}
+
 /* ---- zacpi_get_table ------------------------------------------------------------------------------------- */
 
 /* The tables of rows_bytes.h, which no root table lists, and of rows_tables.h root tables, a DSDT and a table with ids,
@@ -175,6 +199,7 @@ static void check_there(const struct there_row *row) {
 static void check_parts(void) {
     size_t i;
     if (is_there("list_processors_from") && is_there("list_processor_affinities_from")) check_many();
+    check_many_tables();
     for (i = 0; is_there("get_table") && i < sizeof there_rows / sizeof *there_rows; i++) check_there(there_rows + i);
 }
 #endif
