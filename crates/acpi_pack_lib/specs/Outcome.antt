@@ -89,8 +89,8 @@ Packs r files (outcome.Shown text) = ⊥
 
 -- ---- what becomes of arguments
 
--- help or the version is shown; what is no command is refused; and the files of a command are packed, or the same with
--- the sums of tables set
+-- help or the version is shown; other words than a command are refused; and the files of a command are packed, or the
+-- same with the sums of tables set
 abbrev pub BecomesOf : Option (List ℕ) → Option Request → List (Option (List ℕ)) → Outcome → Type 0
 BecomesOf (Some text) request files (outcome.Shown shown) = shown.now ≡ text
 BecomesOf None None files (outcome.Refused text status) = (string_bytes text ≡ usage_line) × (status ≡ 2)
