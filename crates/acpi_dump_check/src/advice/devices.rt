@@ -24,7 +24,7 @@ rmrr-pages Write a base that is a multiple of 4 KiB, and as the limit the last b
 rmrr-limit Write as the limit the address of the last byte, which is the base plus the size minus 1. No device may use \
     the memory otherwise.
 drhd-all Keep INCLUDE_PCI_ALL in one unit of each segment, and list the devices of the others in device scopes.
-drhd-last Move the unit with INCLUDE_PCI_ALL behind all other units of its segment. An OS that reads in order gives it \
+drhd-last Move the unit with INCLUDE_PCI_ALL after all other units of its segment. An OS that reads in order gives it \
     their devices.
 scope-path Write at least one device and function to Path, and a Length of 6 plus 2 for each of them.
 ivhd-range Write the end of the range (type 4), with its last DeviceID, right after its start (type 3, 0x43 or 0x47).
@@ -47,7 +47,7 @@ aml-twice Rename one of the two, or define the object in one table only. An OS d
 aml-resource-end End the template with 0x79 and a checksum or 0, as iasl does for each ResourceTemplate. An OS reads \
     past its end, or refuses it.
 aml-resource-length Write the length that section 6.4 has for the type, or have iasl make the descriptor. An OS finds \
-    none of those behind it.
+    none of those after it.
 aml-resource-sum Write to the end tag what makes all bytes of the template sum to 0 modulo 256, or 0, by which no sum \
     is checked.
 aml-resource-type Use a descriptor of section 6.4. An OS may refuse the whole template for one that it doesn't know.

@@ -61,7 +61,7 @@ fadt-arm-fixed Set HW_REDUCED_ACPI (bit 20 of Flags), and leave the blocks of fi
 fadt-no-psci Set PSCI_COMPLIANT (bit 0 of ARM_BOOT_ARCH), and PSCI_USE_HVC (bit 1) if calls go by HVC. Without PSCI \
     each GICC needs its Parked Address.
 fadt-block-width Set Register Bit Width to eight times the length of the block in bytes. An OS that goes by the \
-    smaller one misses the registers behind it.
+    smaller one misses the registers after it.
 fadt-event-length Set PM1_EVT_LEN to 4 or more: at least two bytes of status registers, and as many that enable \
     events.
 fadt-control-length Set PM1_CNT_LEN to 2 or more: the register with SCI_EN and the sleep type has 16 bits.
