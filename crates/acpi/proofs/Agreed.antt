@@ -7,7 +7,7 @@ use Rattle.acpi.specs.Types.{AcpiError, DSDT, Fadt, AddressRange}
 use Rattle.acpi_base.specs.Words.{accepted, mailbox_of, mcfg_entries_of, Memory, at, AgreesOn, DependsOn, Ranges, own_table_ranges, table_ranges, unless_found, ◌>>=◌, lent, Kind, plain_kind, table_at}
 use Rattle.acpi_fixed.specs.Words.{dsdt_address_of, facs_address_of, fadt_at}
 use Rattle.acpi.proofs.First.{here}
-use Rattle.acpi.specs.Words.{FootprintBelow, accepted_below, header_ranges, lookup_ranges, accepted_root_ranges, accepted_root_at, accept_of, accepted_by, accepted_dsdt, accepted_dsdt_ranges, accepted_led, accepted_led_ranges, accepted_opened, accepted_opened_ranges, platform_ranges, hpet_at, hpet_kind, info_of, hpet_of, or_later, fadt_kind, faults_of, own_header_at, stream_by, streams_by, unless_valid, valid_headers, lookup, found_at, kind_ranges, members_of, tables_found, mcfg_kind, found_regions, both_place_ranges, dsdt_place, dsdt_place_ranges, facs_at, facs_length_in, facs_place, facs_place_ranges, facs_ranges, led_by, led_ranges, place_at, place_ranges, places_of, madt_kind, platform_of, root_kind, root_of_revision, mailbox_found, kind_of, memory_of, pointers_of, root_address_of, root_of, AcpiTables, opened_at, opened_from, opened_by_rsdp, opened_by_search, area_ranges, length_ranges, opened_ranges, or_else_ranges, rsdp_ranges, search_ranges, walk_ranges, opened_by_rsdp_ranges, opened_by_search_ranges, check_whole, checked_length, root_of_rsdp, rsdp_at, count_of, first_area, found_in, found_rsdp, or_else, room_of, second_area, walk, word_in, Area, areas_ranges, count_in, first_in, found_among, found_in_areas, walk_in, opened_in_areas_ranges, opened_in_areas, last_in}
+use Rattle.acpi.specs.Words.{FootprintBelow, accepted_below, header_ranges, lookup_ranges, accepted_root_ranges, accepted_root_at, accept_of, accepted_by, accepted_dsdt, accepted_dsdt_ranges, by_accepted_fadt, by_accepted_fadt_ranges, accepted_opened, accepted_opened_ranges, platform_ranges, hpet_at, hpet_kind, info_of, hpet_of, or_later, fadt_kind, faults_of, own_header_at, stream_by, streams_by, unless_valid, valid_headers, lookup, found_at, kind_ranges, members_of, tables_found, mcfg_kind, found_regions, both_place_ranges, dsdt_place, dsdt_place_ranges, facs_at, facs_length_in, facs_place, facs_place_ranges, facs_ranges, by_first_fadt, dsdt_and_facs_ranges, place_at, place_ranges, places_of, madt_kind, platform_of, root_kind, root_of_revision, mailbox_found, kind_of, memory_of, pointers_of, root_address_of, root_of, AcpiTables, opened_at, opened_from, opened_by_rsdp, opened_by_search, area_ranges, length_ranges, opened_ranges, or_else_ranges, rsdp_ranges, search_ranges, walk_ranges, opened_by_rsdp_ranges, opened_by_search_ranges, check_whole, checked_length, root_of_rsdp, rsdp_at, count_of, first_area, found_in, found_rsdp, or_else, room_of, second_area, walk, word_in, Area, areas_ranges, count_in, first_in, found_among, found_in_areas, walk_in, opened_in_areas_ranges, opened_in_areas, last_in}
 use Rattle.acpi_base.specs.Ranges as ranges
 
 -- ---- lookups
@@ -99,11 +99,11 @@ same_found k m n ps h = same_each m n (table_ranges m k) _ _ (same_found_at k m 
 -- ---- the DSDT
 
 -- what the first FADT that is accepted leads to
-same_led : {A : Type 0} (accept : ℕ) (place : Memory → Fadt → Result A AcpiError) (of : Memory → Fadt → Ranges)
+same_by_fadt : {A : Type 0} (accept : ℕ) (place : Memory → Fadt → Result A AcpiError) (of : Memory → Fadt → Ranges)
     (m n : Memory) → ((f : Fadt) → AgreesOn m n (of m f) → place n f ≡ place m f)
-    → (ps : List ℕ) → AgreesOn m n (accepted_led_ranges accept of m ps)
-    → accepted_led accept place n ps ≡ accepted_led accept place m ps
-same_led accept place of m n same ps h =
+    → (ps : List ℕ) → AgreesOn m n (by_accepted_fadt_ranges accept of m ps)
+    → by_accepted_fadt accept place n ps ≡ by_accepted_fadt accept place m ps
+same_by_fadt accept place of m n same ps h =
     let k = accepted accept fadt_kind in
     let front = same_lookup k m n ps (each_front _ (lookup_ranges m k ps) _ h) in
     rw front (then_same m n (λ found. of m (fadt_at found.1)) _ _ (λ found. same (fadt_at found.1))
@@ -113,7 +113,7 @@ pub same_dsdt : (accept : ℕ) → DependsOn (accepted_dsdt_ranges accept) (acce
 unfolding stream_by
 same_dsdt accept m n ps h =
     let k = accepted accept (plain_kind DSDT) in
-    same_led accept (λ o f. dsdt_address_of f >>= λ a. stream_by o k a)
+    same_by_fadt accept (λ o f. dsdt_address_of f >>= λ a. stream_by o k a)
     (λ o f. ranges.◌>>=◌ (dsdt_address_of f) (table_ranges o k)) m n
     (λ f. then_same m n (table_ranges m k) _ _ (λ a here. rw (same_table k m n a here) refl) (dsdt_address_of f)) ps h
 
@@ -140,15 +140,15 @@ module _ (m n : Memory) where
   same_facs_place f = then_same m n (facs_ranges m) _ _ same_facs_at (facs_address_of f)
 
 pub same_facs : (accept : ℕ)
-    → DependsOn (accepted_led_ranges accept facs_place_ranges) (accepted_led accept facs_place)
-same_facs accept m n ps h = same_led accept facs_place facs_place_ranges m n (same_facs_place m n) ps h
+    → DependsOn (by_accepted_fadt_ranges accept facs_place_ranges) (by_accepted_fadt accept facs_place)
+same_facs accept m n ps h = same_by_fadt accept facs_place facs_place_ranges m n (same_facs_place m n) ps h
 
-same_led_dsdt : DependsOn led_ranges (led_by dsdt_place)
-same_led_dsdt m n ps h = same_led 0 dsdt_place both_place_ranges m n
+same_dsdt_by_fadt : DependsOn dsdt_and_facs_ranges (by_first_fadt dsdt_place)
+same_dsdt_by_fadt m n ps h = same_by_fadt 0 dsdt_place both_place_ranges m n
     (λ f both. same_dsdt_place m n f (each_front _ (dsdt_place_ranges m f) _ both)) ps h
 
-same_led_facs : DependsOn led_ranges (led_by facs_place)
-same_led_facs m n ps h = same_led 0 facs_place both_place_ranges m n
+same_facs_by_fadt : DependsOn dsdt_and_facs_ranges (by_first_fadt facs_place)
+same_facs_by_fadt m n ps h = same_by_fadt 0 facs_place both_place_ranges m n
     (λ f both. same_facs_place m n f (each_back _ (dsdt_place_ranges m f) _ both)) ps h
 
 pub same_places : (root : AddressRange) → DependsOn place_ranges (places_of root)
@@ -156,23 +156,23 @@ same_places root m n ps h =
     let after = each_back _ (header_ranges m ps) _ h in
     let members = same_each m n (own_table_ranges m) _ _ (same_place_at m n) ps
     (each_front _ (header_ranges m ps) _ h) in
-    rw (members, same_led_dsdt m n ps after, same_led_facs m n ps after) refl
+    rw (members, same_dsdt_by_fadt m n ps after, same_facs_by_fadt m n ps after) refl
 
 -- ---- summaries
 
 -- what is said of a lookup's answer
-pub same_said : {A : Type 0} (k : Kind) (m n : Memory) (ps : List ℕ) (said : Result (ℕ × List ℕ) AcpiError → A)
-    → AgreesOn m n (lookup_ranges m k ps) → said (lookup n k ps) ≡ said (lookup m k ps)
-same_said k m n ps said h = ap said (same_lookup k m n ps h)
+pub same_meaning : {A : Type 0} (k : Kind) (m n : Memory) (ps : List ℕ) (meaning : Result (ℕ × List ℕ) AcpiError → A)
+    → AgreesOn m n (lookup_ranges m k ps) → meaning (lookup n k ps) ≡ meaning (lookup m k ps)
+same_meaning k m n ps meaning h = ap meaning (same_lookup k m n ps h)
 
 pub same_hpet : DependsOn (λ m. lookup_ranges m hpet_kind) hpet_of
-same_hpet m n ps h = same_said hpet_kind m n ps (λ r. r >>= λ f. info_of (hpet_at f.1)) h
+same_hpet m n ps h = same_meaning hpet_kind m n ps (λ r. r >>= λ f. info_of (hpet_at f.1)) h
 
 pub same_regions : DependsOn (λ m. lookup_ranges m mcfg_kind) found_regions
-same_regions m n ps h = same_said mcfg_kind m n ps (λ r. r >>= λ f. Ok (mcfg_entries_of f.1)) h
+same_regions m n ps h = same_meaning mcfg_kind m n ps (λ r. r >>= λ f. Ok (mcfg_entries_of f.1)) h
 
 pub same_mailbox : DependsOn (λ m. lookup_ranges m madt_kind) mailbox_found
-same_mailbox m n ps h = same_said madt_kind m n ps (λ r. r >>= λ f. mailbox_of f.1) h
+same_mailbox m n ps h = same_meaning madt_kind m n ps (λ r. r >>= λ f. mailbox_of f.1) h
 
 pub same_platform : {A : Type 0} → DependsOn platform_ranges (λ m ps. platform_of {A = A} m ps)
 same_platform m n ps h =
@@ -217,7 +217,7 @@ abbrev pub IsSameBelow : {A : Type 0} {H P h p : _} → AcpiTables H P h p → (
     → (Memory → List ℕ → Result A AcpiError) → Type 0
 IsSameBelow t ranges_of defined =
     result_ok (accepted_root_at (accept_of t) (memory_of t) (kind_of t) (root_address_of t)) ≡ Some (root_of t)
-    → FootprintBelow t ranges_of defined (λ said. said ≡ defined (memory_of t) (pointers_of t))
+    → FootprintBelow t ranges_of defined (λ expected. expected ≡ defined (memory_of t) (pointers_of t))
 
 module _ {H P h p : _} (t : AcpiTables H P h p) where
   pub fadt_from_tables : IsSameBelow t (λ m. lookup_ranges m (accepted_by t fadt_kind))
@@ -239,8 +239,8 @@ module _ {H P h p : _} (t : AcpiTables H P h p) where
   pub dsdt_from_tables : IsSameBelow t (accepted_dsdt_ranges (accept_of t)) (accepted_dsdt (accept_of t))
   dsdt_from_tables = from_tables t _ _ (same_dsdt (accept_of t))
 
-  pub facs_from_tables : IsSameBelow t (accepted_led_ranges (accept_of t) facs_place_ranges)
-      (accepted_led (accept_of t) facs_place)
+  pub facs_from_tables : IsSameBelow t (by_accepted_fadt_ranges (accept_of t) facs_place_ranges)
+      (by_accepted_fadt (accept_of t) facs_place)
   facs_from_tables = from_tables t _ _ (same_facs (accept_of t))
 
 -- ---- one RSDP

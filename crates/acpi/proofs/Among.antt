@@ -35,9 +35,9 @@ shown_refused m a off b hm e h =
 -- ---- candidates that are passed over
 
 -- what isn't lent is refused
-pub unlent_refused : (m : Memory) (a : ℕ) (e : AcpiError) → lent m a 36 ≡ Err e → IsRefused m a
+pub unmapped_refused : (m : Memory) (a : ℕ) (e : AcpiError) → lent m a 36 ≡ Err e → IsRefused m a
 unfolding rsdp_at
-unlent_refused m a e none = (e, rw none refl)
+unmapped_refused m a e none = (e, rw none refl)
 
 pub only_this : (m : Memory) (a : ℕ) → IsRefused m a → (i : ℕ) → i < 1 → IsRefused m (a + 16 * i)
 only_this m a h i less = moved m a (a + 16 * i) (omega (arith, less)) h
@@ -251,4 +251,4 @@ valid_in m areas view (Err e) h = tt
 pub found_valid_in : {H T : Type 0} {h t : _} (m : Memory) (areas : List AddressRange)
     (r : Result (PhysicalMapping H T h t) AcpiError) → Gives placed r (found_in_areas m areas)
     → IfOk r (λ x. IsOk (rsdp_at m (start_of x)))
-found_valid_in m areas r said = valid_in m areas placed r (searched_in m areas placed r said)
+found_valid_in m areas r given = valid_in m areas placed r (searched_in m areas placed r given)

@@ -6,7 +6,7 @@ use Rattle.acpi.specs.Types.{AcpiError, DSDT, Fadt}
 use Rattle.acpi_base.specs.Words.{Memory, Allows, Ranges, accepted, table_ranges, unless_found, lent, Kind, plain_kind, table_at}
 use Rattle.acpi_base.specs.Ranges as ranges
 use Rattle.acpi_fixed.specs.Words.{dsdt_address_of, fadt_at}
-use Rattle.acpi.specs.Words.{accepted_dsdt_ranges, accepted_led_ranges, header_ranges, lookup_ranges, fadt_kind, faults_of, unless_valid, lookup, Opened, opened_from, pointers, width_of, TableFault, RootPointer, root_and_ranges, area_ranges, opened_by_rsdp_ranges, opened_by_search_ranges, opened_ranges, rsdp_ranges, search_ranges, walk_ranges, both_place_ranges, dsdt_place_ranges, facs_place_ranges, led_ranges, place_ranges, root_of_rsdp, rsdp_at, count_of, first_area, found_in, found_rsdp, room_of, second_area, word_in, Area}
+use Rattle.acpi.specs.Words.{accepted_dsdt_ranges, by_accepted_fadt_ranges, header_ranges, lookup_ranges, fadt_kind, faults_of, unless_valid, lookup, Opened, opened_from, pointers, width_of, TableFault, RootPointer, root_and_ranges, area_ranges, opened_by_rsdp_ranges, opened_by_search_ranges, opened_ranges, rsdp_ranges, search_ranges, walk_ranges, both_place_ranges, dsdt_place_ranges, facs_place_ranges, dsdt_and_facs_ranges, place_ranges, root_of_rsdp, rsdp_at, count_of, first_area, found_in, found_rsdp, room_of, second_area, word_in, Area}
 
 -- the pointer that is seen first, and those after it
 pub peeked : (all : List ℕ) (p : ℕ) → Some p ≡ slice_get all 0 → all ≡ p ∷ drop 1 all
@@ -87,12 +87,12 @@ module _ (may : ℕ → ℕ → Bool) where
   -- ---- the FADT, and what it leads to
 
   pub asked_fadt : (accept : ℕ) (place : Memory → Fadt → Ranges) (m : Memory) (ps : List ℕ)
-      → Allows may (accepted_led_ranges accept place m ps)
+      → Allows may (by_accepted_fadt_ranges accept place m ps)
       → Allows may (lookup_ranges m (accepted accept fadt_kind) ps)
   asked_fadt accept place m ps h = all_front may (lookup_ranges m (accepted accept fadt_kind) ps) _ h
 
   pub asked_place : (accept : ℕ) (place : Memory → Fadt → Ranges) (m : Memory) (ps : List ℕ) (found : ℕ × List ℕ)
-      → Allows may (accepted_led_ranges accept place m ps) → lookup m (accepted accept fadt_kind) ps ≡ Ok found
+      → Allows may (by_accepted_fadt_ranges accept place m ps) → lookup m (accepted accept fadt_kind) ps ≡ Ok found
       → Allows may (place m (fadt_at found.1))
   asked_place accept place m ps found h there =
       rw there at (all_back may (lookup_ranges m (accepted accept fadt_kind) ps) _ h)
@@ -109,16 +109,17 @@ module _ (may : ℕ → ℕ → Bool) where
   pub asked_members : (m : Memory) (ps : List ℕ) → Allows may (place_ranges m ps) → Allows may (header_ranges m ps)
   asked_members m ps h = all_front may (header_ranges m ps) _ h
 
-  pub asked_led : (m : Memory) (ps : List ℕ) → Allows may (place_ranges m ps) → Allows may (led_ranges m ps)
-  asked_led m ps h = all_back may (header_ranges m ps) _ h
+  pub asked_dsdt_and_facs : (m : Memory) (ps : List ℕ) → Allows may (place_ranges m ps)
+      → Allows may (dsdt_and_facs_ranges m ps)
+  asked_dsdt_and_facs m ps h = all_back may (header_ranges m ps) _ h
 
-  pub asked_dsdt_place : (m : Memory) (ps : List ℕ) (found : ℕ × List ℕ) → Allows may (led_ranges m ps)
+  pub asked_dsdt_place : (m : Memory) (ps : List ℕ) (found : ℕ × List ℕ) → Allows may (dsdt_and_facs_ranges m ps)
       → lookup m fadt_kind ps ≡ Ok found
       → Allows may (dsdt_place_ranges m (fadt_at found.1))
   asked_dsdt_place m ps found h there = all_front may (dsdt_place_ranges m (fadt_at found.1)) _
       (asked_place 0 both_place_ranges m ps found h there)
 
-  pub asked_facs_place : (m : Memory) (ps : List ℕ) (found : ℕ × List ℕ) → Allows may (led_ranges m ps)
+  pub asked_facs_place : (m : Memory) (ps : List ℕ) (found : ℕ × List ℕ) → Allows may (dsdt_and_facs_ranges m ps)
       → lookup m fadt_kind ps ≡ Ok found
       → Allows may (facs_place_ranges m (fadt_at found.1))
   asked_facs_place m ps found h there = all_back may (dsdt_place_ranges m (fadt_at found.1)) _

@@ -5,7 +5,7 @@ use Rattle.acpi_base.specs.Words.{Memory, Gives, Kind, table_at}
 use Rattle.acpi.specs.Types.{AcpiError, TableMissing, Signature}
 use Rattle.acpi.specs.Words.{LookupIsFirst, SkipsInvalid, ValidEndsFaults, or_later, IsFirstValid, NoneValid, lookup, faults_of, unless_valid, with_fault, pieces, pointers, TableFault}
 use Rattle.acpi_base.specs.FromStd.{cons_option}
-use Rattle.acpi_base.specs.declared.error.AcpiError.TheVariants as refusal
+use Rattle.acpi_bytes.specs.declared.error.AcpiError.TheVariants as refusal
 use Rattle.acpi.proofs.Asked.{valid_last}
 
 abbrev done : ℕ × List ℕ → Result (ℕ × List ℕ) AcpiError
@@ -77,15 +77,15 @@ cases_missing : (m : Memory) (k : Kind) (p : ℕ) (ps : List ℕ) (e : AcpiError
     → table_at m k p ≡ r → or_later (here p) r (lookup m k ps) ≡ Err e
     → (lookup m k ps ≡ Err e → (e ≡ TableMissing k.signature) × NoneValid m k ps)
     → (e ≡ TableMissing k.signature) × NoneValid m k (p ∷ ps)
-cases_missing m k p ps e (Ok table) here said more = absurd cc
-cases_missing m k p ps e (Err refusal) here said more =
-    let later = more said in
+cases_missing m k p ps e (Ok table) here given more = absurd cc
+cases_missing m k p ps e (Err refusal) here given more =
+    let later = more given in
     (later.0, (rw here refl, later.1))
 
 pub none_valid : (m : Memory) (k : Kind) (ps : List ℕ) (e : AcpiError) → lookup m k ps ≡ Err e
     → (e ≡ TableMissing k.signature) × NoneValid m k ps
-none_valid m k [] e said = (cc, tt)
-none_valid m k (p ∷ ps) e said = cases_missing m k p ps e (table_at m k p) refl said (none_valid m k ps e)
+none_valid m k [] e given = (cc, tt)
+none_valid m k (p ∷ ps) e given = cases_missing m k p ps e (table_at m k p) refl given (none_valid m k ps e)
 
 none_found : (m : Memory) (k : Kind) (ps : List ℕ) → NoneValid m k ps → lookup m k ps ≡ Err (TableMissing k.signature)
 none_found m k [] none = refl
@@ -96,13 +96,13 @@ none_found m k (p ∷ ps) none = passed (here p) (table_at m k p) (lookup m k ps
 pub gives_first : {X : Type 0} (m : Memory) (k : Kind) (ps : List ℕ) (place : X → ℕ) (bytes : X
     → List ℕ) (r : Result X AcpiError) → Gives (λ x. (place x, bytes x)) r (lookup m k ps)
     → IfOk r (λ x. IsFirstValid m k ps (place x) (bytes x))
-gives_first m k ps place bytes (Ok x) said = is_first m k ps (place x) (bytes x) said
-gives_first m k ps place bytes (Err e) said = tt
+gives_first m k ps place bytes (Ok x) given = is_first m k ps (place x) (bytes x) given
+gives_first m k ps place bytes (Err e) given = tt
 
 refused_as : {X : Type 0} (view : X → ℕ × List ℕ) (r : Result X AcpiError) (e : AcpiError)
-    (said : Result (ℕ × List ℕ) AcpiError) → said ≡ Err e → Gives view r said → r ≡ Err e
-refused_as view (Ok x) e said none gives = absurd cc
-refused_as view (Err d) e said none gives = let same : d ≡ e = cc in rw same refl
+    (given : Result (ℕ × List ℕ) AcpiError) → given ≡ Err e → Gives view r given → r ≡ Err e
+refused_as view (Ok x) e given none gives = absurd cc
+refused_as view (Err d) e given none gives = let same : d ≡ e = cc in rw same refl
 
 pub gives_absent : {X : Type 0} (m : Memory) (k : Kind) (ps : List ℕ) (view : X
     → ℕ × List ℕ) (r : Result X AcpiError) (s : Signature) → k.signature ≡ s → Gives view r (lookup m k ps)
@@ -119,7 +119,7 @@ skips_invalid m k p (q ∷ before) after h = ap (or_later (here q) (table_at m k
 pub gives_skipping : {X : Type 0} (m : Memory) (k : Kind) (ps : List ℕ) (view : X → ℕ × List ℕ) (r : Result X AcpiError)
     → Gives view r (lookup m k ps) → (before after : List ℕ) (p : ℕ) → ps ≡ before ++ after → IsErr (table_at m k p)
     → Gives view r (lookup m k (before ++ p ∷ after))
-gives_skipping m k ps view r said before after p listed h = rw (skips_invalid m k p before after h, ← listed) said
+gives_skipping m k ps view r given before after p listed h = rw (skips_invalid m k p before after h, ← listed) given
 
 pub one_more : {Y : Type 0} (o : Option Y) (ys : List Y) (n : ℕ) → length ys ≤ n → length (cons_option o ys) ≤ n + 1
 one_more None ys n h = omega arith

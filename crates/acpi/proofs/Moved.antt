@@ -69,26 +69,27 @@ lookup_follows s least enough m n ps qs same =
 
 -- ---- summaries
 
-by_bytes : {A : Type 0} (r : Result (ℕ × List ℕ) AcpiError) (said : List ℕ → Result A AcpiError)
-    → (r >>= λ f. said f.1) ≡ (bytes_found r >>= said)
-by_bytes (Ok found) said = refl
-by_bytes (Err e) said = refl
+by_bytes : {A : Type 0} (r : Result (ℕ × List ℕ) AcpiError) (meaning : List ℕ → Result A AcpiError)
+    → (r >>= λ f. meaning f.1) ≡ (bytes_found r >>= meaning)
+by_bytes (Ok found) meaning = refl
+by_bytes (Err e) meaning = refl
 
-pub said_follows : {A : Type 0} (s : Signature) (least : ℕ) (said : List ℕ → Result A AcpiError) → 36 ≤ least
-    → FollowsTables (λ m ps. lookup m (kind s least (check_table s)) ps >>= λ f. said f.1)
-said_follows s least said enough m n ps qs same =
-    by_bytes _ said ∙ ap (λ r. r >>= said) (lookup_follows s least enough m n ps qs same) ∙ sym (by_bytes _ said)
+pub meaning_follows : {A : Type 0} (s : Signature) (least : ℕ) (meaning : List ℕ → Result A AcpiError) → 36 ≤ least
+    → FollowsTables (λ m ps. lookup m (kind s least (check_table s)) ps >>= λ f. meaning f.1)
+meaning_follows s least meaning enough m n ps qs same =
+    by_bytes _ meaning ∙ ap (λ r. r >>= meaning) (lookup_follows s least enough m n ps qs same)
+    ∙ sym (by_bytes _ meaning)
 
 pub hpet_follows : FollowsTables hpet_of
-hpet_follows = said_follows HPET 56 (λ b. info_of (hpet_at b)) (lit≤ tt)
+hpet_follows = meaning_follows HPET 56 (λ b. info_of (hpet_at b)) (lit≤ tt)
 
 pub regions_follow : FollowsTables found_regions
-regions_follow = said_follows MCFG 44 (λ b. Ok (mcfg_entries_of b)) (lit≤ tt)
+regions_follow = meaning_follows MCFG 44 (λ b. Ok (mcfg_entries_of b)) (lit≤ tt)
 
-later_by_bytes : {B : Type 0} (r : Result (ℕ × List ℕ) AcpiError) (said : List ℕ → B) (later : B)
-    → or_later (λ f. said f.1) r later ≡ or_later said (bytes_found r) later
-later_by_bytes (Ok found) said later = refl
-later_by_bytes (Err e) said later = refl
+later_by_bytes : {B : Type 0} (r : Result (ℕ × List ℕ) AcpiError) (meaning : List ℕ → B) (later : B)
+    → or_later (λ f. meaning f.1) r later ≡ or_later meaning (bytes_found r) later
+later_by_bytes (Ok found) meaning later = refl
+later_by_bytes (Err e) meaning later = refl
 
 pub platform_follows : {A : Type 0} → FollowsTables (λ m ps. platform_of {A = A} m ps)
 platform_follows {A = A} m n ps qs same =
@@ -104,12 +105,12 @@ platform_follows {A = A} m n ps qs same =
 
 moved_by : {A : Type 0} (n : Memory) (r : Result (List ℕ) AcpiError) (pointers_in : List ℕ
     → List ℕ) (ts : List (List ℕ))
-    (defined : Memory → List ℕ → Result A AcpiError) (said : Result A AcpiError)
-    → ((qs : List ℕ) → valid_tables n qs ≡ ts → defined n qs ≡ said)
+    (defined : Memory → List ℕ → Result A AcpiError) (meaning : Result A AcpiError)
+    → ((qs : List ℕ) → valid_tables n qs ≡ ts → defined n qs ≡ meaning)
     → (r >>= λ root. done (valid_tables n (pointers_in root))) ≡ Ok ts
-    → (r >>= λ root. defined n (pointers_in root)) ≡ said
-moved_by n (Ok root) pointers_in ts defined said each e = each (pointers_in root) (same_ok _ _ e)
-moved_by n (Err d) pointers_in ts defined said each e = absurd cc
+    → (r >>= λ root. defined n (pointers_in root)) ≡ meaning
+moved_by n (Ok root) pointers_in ts defined meaning each e = each (pointers_in root) (same_ok _ _ e)
+moved_by n (Err d) pointers_in ts defined meaning each e = absurd cc
 
 -- a definition over the pointers of tables, over a memory that has the same valid tables
 pub moved_tables : {A : Type 0} {H P h p : _} (t : AcpiTables H P h p) (defined : Memory → List ℕ → Result A AcpiError)

@@ -7,7 +7,7 @@ use Rattle.acpi_base.proofs.FromStd.{nat_tests, map-append, drop_more, le-leb, l
 use Rattle.acpi_base.specs.Words.{Memory, Region, AreApart, IsMemory, at, end_of, lies_in, rest_from, one_region, ecam_in, ecam_place}
 use Rattle.acpi.specs.Types.{AddressRange, McfgEntry}
 use Rattle.acpi.proofs.First.{filter_map_few, one_more, pointers_few}
-use Rattle.acpi.specs.Words.{members_of, dsdt_place, facs_place, led_by, place_at, places_of, pointers, IsApart, function_address, is_of, pci_address, place_in, IsBeside, ecam_address, IsAscending, check_after, check_regions, region_memory, regions_of, MappedRegion}
+use Rattle.acpi.specs.Words.{members_of, dsdt_place, facs_place, by_first_fadt, place_at, places_of, pointers, IsApart, function_address, is_of, pci_address, place_in, IsBeside, ecam_address, IsAscending, check_after, check_regions, region_memory, regions_of, MappedRegion}
 use Rattle.acpi.specs.Pci.{region_of as pci_region_of}
 use denote.Ref.{Bor}
 use Rattle.acpi.specs.Regions.{region_of}
@@ -26,8 +26,8 @@ members_few m (p ∷ ps) = omega (arith, members_few m ps)
 pub places_few : (root : AddressRange) (m : Memory) (ps : List ℕ) → length (places_of root m ps) ≤ length ps + 3
 places_few root m ps =
     let members = filter_map (λ p. result_ok (place_at m p)) ps in
-    let facs = result_ok (led_by facs_place m ps) in
-    let dsdt = result_ok (led_by dsdt_place m ps) in
+    let facs = result_ok (by_first_fadt facs_place m ps) in
+    let dsdt = result_ok (by_first_fadt dsdt_place m ps) in
     omega (
       arith,
       length-append members (cons_option dsdt (cons_option facs [])),

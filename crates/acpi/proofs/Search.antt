@@ -195,20 +195,20 @@ module _ (m : Memory) (word : ℕ) (is : IsWord m (Ok word)) where
       → Searched m (r >>= λ found. or_else found (Err NoValidRsdp))
   in_second none (Ok (Some found)) least = (second_area word, is_second, inr (none, least))
   in_second none (Ok None) missing = inr (refl, (second_area word, is_second, none, missing))
-  in_second none (Err e) unlent = inl (unlent.0, inr (inr (second_area word, is_second, none, unlent.1)))
+  in_second none (Err e) unmapped = inl (unmapped.0, inr (inr (second_area word, is_second, none, unmapped.1)))
 
   in_first : (r : Result (Option (ℕ × List ℕ)) AcpiError) → InArea m first_area r
       → Searched m (r >>= λ first. or_else first (found_in m (second_area word) >>= λ found.
       or_else found (Err NoValidRsdp)))
   in_first (Ok (Some found)) least = (second_area word, is_second, inl least)
   in_first (Ok None) none = in_second none _ (in_area m (second_area word))
-  in_first (Err e) unlent = inl (unlent.0, inr (inl unlent.1))
+  in_first (Err e) unmapped = inl (unmapped.0, inr (inl unmapped.1))
 
 from_word : (m : Memory) (r : Result ℕ AcpiError) → IsWord m r
     → Searched m (r >>= λ word. found_in m first_area >>= λ first.
     or_else first (found_in m (second_area word) >>= λ found. or_else found (Err NoValidRsdp)))
 from_word m (Ok word) is = in_first m word is _ (in_area m first_area)
-from_word m (Err e) unlent = inl (unlent.0, inl unlent.1)
+from_word m (Err e) unmapped = inl (unmapped.0, inl unmapped.1)
 
 found_is_searched : (m : Memory) → Searched m (found_rsdp m)
 unfolding found_rsdp
@@ -251,7 +251,7 @@ of_searched m view (Err e) h = tt
 
 pub found_valid : {H T : Type 0} {h t : _} (m : Memory) (r : Result (PhysicalMapping H T h t) AcpiError)
     → Gives placed r (found_rsdp m) → IfOk r (λ x. IsOk (rsdp_at m (start_of x)))
-found_valid m r said = of_searched m placed r (searched m placed r said)
+found_valid m r given = of_searched m placed r (searched m placed r given)
 
 -- ---- bytes that hold all checks of an RSDP are a valid RSDP if a memory has them
 
@@ -289,12 +289,12 @@ is_there m a b head n first long whole = rw (first, long, whole) refl
 pub valid_there : (m : Memory) (a : ℕ) (b : List ℕ) → 36 ≤ length b → at m a (length b) ≡ Some b → check_rsdp b ≡ Ok tt
     → IsOk (rsdp_at m a)
 unfolding check_rsdp
-valid_there m a b enough here said =
-    let n = bind_ok (checked_length b) _ tt said in
+valid_there m a b enough here given =
+    let n = bind_ok (checked_length b) _ tt given in
     rw (is_there m a b (take 36 b) n.0 (lent_front m a 36 b here enough) (length_front b ∙ n.1)
     (whole_there m a b n.0 here n.2)) refl
 
 pub validated : (m : Memory) (a : ℕ) (b : List ℕ) (r : Result (Unit {0}) AcpiError) → 36 ≤ length b
     → at m a (length b) ≡ Some b → r ≡ check_rsdp b → IfOk r (λ _. IsOk (rsdp_at m a))
-validated m a b (Ok x) enough here said = valid_there m a b enough here (sym said)
-validated m a b (Err e) enough here said = tt
+validated m a b (Ok x) enough here given = valid_there m a b enough here (sym given)
+validated m a b (Err e) enough here given = tt

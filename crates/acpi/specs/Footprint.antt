@@ -11,7 +11,7 @@ use Rattle.acpi.specs.Platform.{madt_kind}
 use Rattle.acpi.specs.Root.{accepted_root_at, pointers, root_kind, width_of}
 use Rattle.acpi.specs.Tables.{accept_of, kind_of, may_of, memory_of, pointers_of, root_address_of}
 use Rattle.acpi.specs.declared.tables.AcpiTables.{AcpiTables}
-use Rattle.acpi_base.specs.Steps as steps
+use Rattle.acpi_bytes.specs.Steps as steps
 
 -- those of `root_at`
 abbrev pub root_ranges : Memory → RootKind → ℕ → Ranges

@@ -5,7 +5,7 @@ use Rattle.acpi.specs.Types.{AcpiError, SdtHeader, Signature, DSDT, FADT, SSDT, 
 use Rattle.acpi_base.specs.Words.{header_at, Memory, ◌>>=◌, Kind, accepted, sdt_kind, own_table_at, plain_kind, table_at}
 use Rattle.acpi_fixed.specs.Words.{dsdt_address_of, fadt_at}
 use Rattle.acpi.specs.Lookup.{lookup}
-use Rattle.acpi_base.specs.declared.error.AcpiError.TheVariants as refusal
+use Rattle.acpi_bytes.specs.declared.error.AcpiError.TheVariants as refusal
 
 -- the header of the table at an address, if the table is valid under the signature that it has
 unfoldable pub own_header_at : Memory → ℕ → Result SdtHeader AcpiError

@@ -54,21 +54,21 @@ facs_place m f = do
 -- ---- of a root table
 
 -- what the first FADT leads to that the bits of `accept` accept
-abbrev pub accepted_led : {A : Type 0} → ℕ → (Memory → Fadt → Result A AcpiError) → Memory → List ℕ
+abbrev pub by_accepted_fadt : {A : Type 0} → ℕ → (Memory → Fadt → Result A AcpiError) → Memory → List ℕ
     → Result A AcpiError
-accepted_led accept place m ps = do
+by_accepted_fadt accept place m ps = do
   found ← lookup m (accepted accept fadt_kind) ps
   place m (fadt_at found.1)
 
 -- what the first valid FADT leads to
-abbrev pub led_by : {A : Type 0} → (Memory → Fadt → Result A AcpiError) → Memory → List ℕ → Result A AcpiError
-led_by = accepted_led 0
+abbrev pub by_first_fadt : {A : Type 0} → (Memory → Fadt → Result A AcpiError) → Memory → List ℕ → Result A AcpiError
+by_first_fadt = by_accepted_fadt 0
 
 -- the valid members, then the DSDT and the FACS if a valid FADT leads to them
 abbrev pub places_below : Memory → List ℕ → List AddressRange
 places_below m ps = filter_map (λ p. result_ok (place_at m p)) ps
-    ++ cons_option (result_ok (led_by dsdt_place m ps))
-    (cons_option (result_ok (led_by facs_place m ps)) [])
+    ++ cons_option (result_ok (by_first_fadt dsdt_place m ps))
+    (cons_option (result_ok (by_first_fadt facs_place m ps)) [])
 
 -- the root table, and what lies below it
 abbrev pub places_of : AddressRange → Memory → List ℕ → List AddressRange
@@ -89,23 +89,23 @@ facs_ranges m address = (address, 36) ∷ ranges.◌>>=◌ (lent m address 36) (
 abbrev pub facs_place_ranges : Memory → Fadt → Ranges
 facs_place_ranges m f = ranges.◌>>=◌ (facs_address_of f) (λ address. facs_ranges m address)
 
--- those of `accepted_led`: the FADT's, and those of what it leads to
-abbrev pub accepted_led_ranges : ℕ → (Memory → Fadt → Ranges) → Memory → List ℕ → Ranges
-accepted_led_ranges accept place m ps = lookup_ranges m (accepted accept fadt_kind) ps
+-- those of `by_accepted_fadt`: the FADT's, and those of what it leads to
+abbrev pub by_accepted_fadt_ranges : ℕ → (Memory → Fadt → Ranges) → Memory → List ℕ → Ranges
+by_accepted_fadt_ranges accept place m ps = lookup_ranges m (accepted accept fadt_kind) ps
     ++ ranges.◌>>=◌ (lookup m (accepted accept fadt_kind) ps) (λ found. place m (fadt_at found.1))
 
--- those of `led_by`
-abbrev pub led_by_ranges : (Memory → Fadt → Ranges) → Memory → List ℕ → Ranges
-led_by_ranges = accepted_led_ranges 0
+-- those of `by_first_fadt`
+abbrev pub by_first_fadt_ranges : (Memory → Fadt → Ranges) → Memory → List ℕ → Ranges
+by_first_fadt_ranges = by_accepted_fadt_ranges 0
 
 -- those of `dsdt_place` and of `facs_place`
 abbrev pub both_place_ranges : Memory → Fadt → Ranges
 both_place_ranges m f = dsdt_place_ranges m f ++ facs_place_ranges m f
 
 -- those of the first valid FADT, and of the DSDT and the FACS that it leads to
-abbrev pub led_ranges : Memory → List ℕ → Ranges
-led_ranges = led_by_ranges both_place_ranges
+abbrev pub dsdt_and_facs_ranges : Memory → List ℕ → Ranges
+dsdt_and_facs_ranges = by_first_fadt_ranges both_place_ranges
 
 -- those of `places_of`: each member's, under its own signature, and those of what the FADT leads to
 abbrev pub place_ranges : Memory → List ℕ → Ranges
-place_ranges m ps = header_ranges m ps ++ led_ranges m ps
+place_ranges m ps = header_ranges m ps ++ dsdt_and_facs_ranges m ps

@@ -22,12 +22,12 @@ abbrev pub platform_of : {A : Type 0} → Memory → List ℕ → Result (Platfo
 platform_of m ps = do
   found ← lookup m fadt_kind ps
   let fadt = fadt_at found.1
-  said ← model_in m ps
+  read_model ← model_in m ps
   timer ← timer_of fadt
   Ok (record {
     power_profile = profile_of fadt;
-    interrupt_model = said.0;
-    processor_info = said.1;
+    interrupt_model = read_model.0;
+    processor_info = read_model.1;
     pm_timer = timer;
   })
 

@@ -70,8 +70,8 @@ abbrev pub IsMissing : Memory → Type 0
 IsMissing m = (s : Area) × IsSecond m s × HasNone m first_area × HasNone m s
 
 -- the word isn't mapped, or the first area, or the second if the first has no valid candidate
-abbrev pub IsUnlent : Memory → Type 0
-IsUnlent m =
+abbrev pub IsUnmapped : Memory → Type 0
+IsUnmapped m =
     (at m 0x40e 2 ≡ None)
     ⊎ ((at m first_area.start (room_of first_area) ≡ None)
     ⊎ ((s : Area) × IsSecond m s × HasNone m first_area × (at m s.start (room_of s) ≡ None)))
@@ -79,7 +79,7 @@ IsUnlent m =
 -- what a search returned, seen by view, is the least valid candidate, or the error has its cause
 abbrev pub IsSearched : {X : Type 0} → Memory → (X → ℕ × List ℕ) → Result X AcpiError → Type 0
 IsSearched m view (Ok x) = IsFound m (view x)
-IsSearched m view (Err e) = ((e ≡ MapFailed) × IsUnlent m) ⊎ ((e ≡ NoValidRsdp) × IsMissing m)
+IsSearched m view (Err e) = ((e ≡ MapFailed) × IsUnmapped m) ⊎ ((e ≡ NoValidRsdp) × IsMissing m)
 
 -- ---- step by step
 

@@ -15,48 +15,6 @@ pub use Rattle.acpi.specs.declared.root.RootKind.TheVariants.{
 pub use Rattle.acpi.specs.declared.root.RootPointer.{RootPointer}
 pub use Rattle.acpi.specs.declared.rsdp.Rsdp.{Rsdp}
 pub use Rattle.acpi.specs.declared.rsdp.bios.Area.{Area}
-pub use Rattle.acpi_base.specs.declared.address.AccessSize.TheVariants.{
-  ByteAccess,
-  Undefined,
-}
-pub use Rattle.acpi_base.specs.declared.address.AddressSpace.{AddressSpace}
-pub use Rattle.acpi_base.specs.declared.address.AddressSpace.TheVariants.{
-  SystemIo,
-  SystemMemory,
-}
-pub use Rattle.acpi_base.specs.declared.address.GenericAddress.{GenericAddress}
-pub use Rattle.acpi_base.specs.declared.entries.EntryLayout.{EntryLayout}
-pub use Rattle.acpi_base.specs.declared.entries.Grammar.{Grammar}
-pub use Rattle.acpi_base.specs.declared.entries.Width.{Width}
-pub use Rattle.acpi_base.specs.declared.entries.Width.TheVariants.{
-  Four,
-  One,
-  Two,
-}
-pub use Rattle.acpi_base.specs.declared.error.AcpiError.{AcpiError}
-pub use Rattle.acpi_base.specs.declared.error.AcpiError.TheVariants.{
-  AllocError,
-  InvalidDsdtAddress,
-  InvalidFacsAddress,
-  InvalidGenericAddress,
-  InvalidMadt,
-  MapFailed,
-  NoValidRsdp,
-  RsdpIncorrectSignature,
-  RsdpInvalidChecksum,
-  RsdpInvalidOemId,
-  SdtInvalidChecksum,
-  SdtInvalidLength,
-  SdtInvalidOemId,
-  SdtInvalidSignature,
-  TableMissing,
-}
-pub use Rattle.acpi_base.specs.declared.error.MadtError.{MadtError}
-pub use Rattle.acpi_base.specs.declared.error.MadtError.TheVariants.{
-  InvalidEntryLength,
-  UnexpectedEntry,
-  WakeupApsTimeout,
-}
 pub use Rattle.acpi_base.specs.declared.memory.mapping.PhysicalMapping.{PhysicalMapping}
 pub use Rattle.acpi_base.specs.declared.model.interrupt.Apic.{Apic}
 pub use Rattle.acpi_base.specs.declared.model.interrupt.InterruptModel.{InterruptModel}
@@ -96,10 +54,58 @@ pub use Rattle.acpi_base.specs.declared.model.processor.ProcessorState.TheVarian
   Running,
   WaitingForSipi,
 }
-pub use Rattle.acpi_base.specs.declared.range.AddressRange.{AddressRange}
-pub use Rattle.acpi_base.specs.declared.table.header.SdtHeader.{SdtHeader}
-pub use Rattle.acpi_base.specs.declared.table.signature.Signature.{Signature}
-pub use Rattle.acpi_base.specs.declared.table.signature.TheConstants.Signature.{
+pub use Rattle.acpi_base.specs.declared.tables.madt.Madt.{Madt}
+pub use Rattle.acpi_base.specs.declared.tables.madt.entry.MadtEntry.{MadtEntry}
+pub use Rattle.acpi_base.specs.declared.tables.madt.gic.GicMsiFrameEntry.{GicMsiFrameEntry}
+pub use Rattle.acpi_base.specs.declared.tables.madt.gic.GiccEntry.{GiccEntry}
+pub use Rattle.acpi_base.specs.declared.tables.mcfg.McfgEntry.{McfgEntry}
+pub use Rattle.acpi_base.specs.declared.tables.spcr.Spcr.{Spcr}
+pub use Rattle.acpi_bytes.specs.declared.address.AccessSize.TheVariants.{
+  ByteAccess,
+  Undefined,
+}
+pub use Rattle.acpi_bytes.specs.declared.address.AddressSpace.{AddressSpace}
+pub use Rattle.acpi_bytes.specs.declared.address.AddressSpace.TheVariants.{
+  SystemIo,
+  SystemMemory,
+}
+pub use Rattle.acpi_bytes.specs.declared.address.GenericAddress.{GenericAddress}
+pub use Rattle.acpi_bytes.specs.declared.entries.EntryLayout.{EntryLayout}
+pub use Rattle.acpi_bytes.specs.declared.entries.Grammar.{Grammar}
+pub use Rattle.acpi_bytes.specs.declared.entries.Width.{Width}
+pub use Rattle.acpi_bytes.specs.declared.entries.Width.TheVariants.{
+  Four,
+  One,
+  Two,
+}
+pub use Rattle.acpi_bytes.specs.declared.error.AcpiError.{AcpiError}
+pub use Rattle.acpi_bytes.specs.declared.error.AcpiError.TheVariants.{
+  AllocError,
+  InvalidDsdtAddress,
+  InvalidFacsAddress,
+  InvalidGenericAddress,
+  InvalidMadt,
+  MapFailed,
+  NoValidRsdp,
+  RsdpIncorrectSignature,
+  RsdpInvalidChecksum,
+  RsdpInvalidOemId,
+  SdtInvalidChecksum,
+  SdtInvalidLength,
+  SdtInvalidOemId,
+  SdtInvalidSignature,
+  TableMissing,
+}
+pub use Rattle.acpi_bytes.specs.declared.error.MadtError.{MadtError}
+pub use Rattle.acpi_bytes.specs.declared.error.MadtError.TheVariants.{
+  InvalidEntryLength,
+  UnexpectedEntry,
+  WakeupApsTimeout,
+}
+pub use Rattle.acpi_bytes.specs.declared.header.SdtHeader.{SdtHeader}
+pub use Rattle.acpi_bytes.specs.declared.range.AddressRange.{AddressRange}
+pub use Rattle.acpi_bytes.specs.declared.signature.Signature.{Signature}
+pub use Rattle.acpi_bytes.specs.declared.signature.TheConstants.Signature.{
   BGRT,
   DMAR,
   DSDT,
@@ -118,12 +124,6 @@ pub use Rattle.acpi_base.specs.declared.table.signature.TheConstants.Signature.{
   WSMT,
   XSDT,
 }
-pub use Rattle.acpi_base.specs.declared.tables.madt.Madt.{Madt}
-pub use Rattle.acpi_base.specs.declared.tables.madt.entry.MadtEntry.{MadtEntry}
-pub use Rattle.acpi_base.specs.declared.tables.madt.gic.GicMsiFrameEntry.{GicMsiFrameEntry}
-pub use Rattle.acpi_base.specs.declared.tables.madt.gic.GiccEntry.{GiccEntry}
-pub use Rattle.acpi_base.specs.declared.tables.mcfg.McfgEntry.{McfgEntry}
-pub use Rattle.acpi_base.specs.declared.tables.spcr.Spcr.{Spcr}
 pub use Rattle.acpi_fixed.specs.declared.bgrt.Bgrt.{Bgrt}
 pub use Rattle.acpi_fixed.specs.declared.bgrt.ImageType.TheVariants.{Bitmap}
 pub use Rattle.acpi_fixed.specs.declared.fadt.Fadt.{Fadt}

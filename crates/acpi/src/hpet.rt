@@ -4,10 +4,13 @@ ghost use Rattle.std.proofs.Common.{lit≤};
 ghost use Rattle.acpi_base.specs.Words.{bits_of, has_bit};
 ghost use Rattle.acpi.specs.Words.{protection_code, protection_of, hpet_at, hpet_kind, hpet_of, info_of, AllowsBelow, FootprintBelow, lookup_ranges, Relocation, of_tables};
 
+mod readings;
+
 use crate::tables::AcpiTables;
-use acpi_base::bytes::{bits, field_in, has_bit, u8_in, u16_in, u32_in};
+use acpi_base::bytes::{bits, has_bit};
 use acpi_base::sdt::SdtHeader;
 use acpi_base::{AcpiError, AcpiResult, Lender, PhysicalRecord, SdtTable, Signature};
+use readings::hpet_at;
 
 /// The IA-PC High Precision Event Timer Table (HPET). Section 5.2.6 reserves its signature, and its layout
 /// is the IA-PC HPET Specification's. `HpetInfo` shows what it contains.
@@ -29,17 +32,8 @@ impl PhysicalRecord for HpetTable {
 
     ghost reading = { hpet_at };
 
-    #[tactic(auto, unfolding(crate::specs::Hpet::hpet_at))]
     fn read(bytes: &[u8]) -> Self {
-        HpetTable {
-            header: SdtHeader::read(bytes),
-            event_timer_block_id: u32_in(bytes, 36), // Event Timer Block ID
-            address_space: u8_in(bytes, 40), // BASE_ADDRESS: Address Space ID
-            address: field_in(bytes, 44, 8), // BASE_ADDRESS: Address
-            hpet_number: u8_in(bytes, 52), // HPET Number
-            clock_tick_unit: u16_in(bytes, 53), // Main Counter Minimum Clock_tick in Periodic Mode
-            page_protection_and_oem: u8_in(bytes, 55), // Page Protection And OEM Attribute
-        }
+        hpet_at(bytes)
     }
 }
 
@@ -125,9 +119,9 @@ impl HpetInfo {
         ensures exact { result ≡ of_tables tables.now hpet_of }
         // It depends on what the lookup of the HPET depends on.
         ensures footprint { FootprintBelow tables.now (λ m. lookup_ranges m hpet_kind) hpet_of
-            (λ said. result ≡ said) }
+            (λ expected. result ≡ expected) }
         // It is the same wherever the valid tables are.
-        ensures relocation { Relocation tables.now hpet_of (λ said. result ≡ said) }
+        ensures relocation { Relocation tables.now hpet_of (λ expected. result ≡ expected) }
     {
         HpetInfo::of(tables.find_table::<HpetTable>()?.get())
     }

@@ -28,8 +28,8 @@ use std::alloc::{Allocator, Global};
 /// are physical addresses, and what they lead to are its members, in the order of the pointers. The root
 /// table stays mapped until this is dropped.
 ///
-/// A table is accepted if it is valid, but for the checks that the policy `P` gives up. Without a policy it has to be
-/// valid.
+/// A table is accepted if it passes all checks but those that the policy `P` leaves out. The default, `Valid`, leaves
+/// out none.
 #[derive(Drop)]
 pub struct AcpiTables<'h, H: Lender, P: Policy = Valid> {
     policy: P,
@@ -91,8 +91,8 @@ impl<'h, H: Lender, P: Policy> AcpiTables<'h, H, P> {
     /// The first member of the root table that is accepted for `T` (sections 5.2.7 and 5.2.8): its address
     /// is the mapping's `physical_start`, and its bytes are the mapping's.
     ///
-    /// Fails with `TableMissing`, carrying `T::SIGNATURE`, if no member is accepted for `T`. A
-    /// member that isn't lent, or fails another check, is passed over.
+    /// Fails with `TableMissing`, with `T::SIGNATURE`, if no member is accepted for `T`. A member that isn't mapped, or
+    /// fails another check, is skipped.
     #[inline(always)]
     pub fn find_table<T: AcpiTable>(&self) -> AcpiResult<PhysicalMapping<'h, H, T>>
         requires { AllowsBelow self.now (λ m. lookup_ranges m (accepted_by self.now T.kind)) }
@@ -129,7 +129,7 @@ impl<'h, H: Lender, P: Policy> AcpiTables<'h, H, P> {
     }
 
     /// The first member of the root table that is accepted as a FADT (section 5.2.9), as `find_table` finds it: a
-    /// field of it is read when it is asked for.
+    /// field of it is read when it is requested.
     ///
     /// Fails as `find_table` does.
     #[tactic(auto, using(crate::proofs::Agreed::fadt_from_tables))]
@@ -148,7 +148,7 @@ impl<'h, H: Lender, P: Policy> AcpiTables<'h, H, P> {
         Ok(FadtView::new(self.first_valid::<Fadt>()?))
     }
 
-    /// The AML of all members that are accepted as SSDTs, in order (section 5.2.11.2). It gives at most
+    /// The AML of all members that are accepted as SSDTs, in order (section 5.2.11.2), at most
     /// one for each pointer.
     pub fn ssdts(&self) -> SsdtIterator<'_, 'h, H>
         requires { AllowsBelow self.now (λ m. kind_ranges m (accepted_by self.now (plain_kind SSDT))) }
@@ -159,25 +159,25 @@ impl<'h, H: Lender, P: Policy> AcpiTables<'h, H, P> {
         // They depend on the root table and the members, each as an SSDT.
         ensures footprint { FootprintBelow self.now (λ m. kind_ranges m (accepted_by self.now (plain_kind SSDT)))
             (λ n ps. Ok (streams_by n (accepted_by self.now (plain_kind SSDT)) ps))
-            (λ said. said ≡ Ok (ssdts_left H.memory result)) }
+            (λ expected. expected ≡ Ok (ssdts_left H.memory result)) }
     {
         SsdtIterator::new(self.root.handler(), self.pointers(), self.policy.bits())
     }
 
-    /// The AML of the DSDT (section 5.2.11.1): that of the table at the address that the first
-    /// accepted FADT gives (section 5.2.9).
+    /// The AML of the DSDT (section 5.2.11.1): that of the table at the address in the first accepted FADT
+    /// (section 5.2.9).
     ///
-    /// Fails, in this order, with `TableMissing` if no accepted FADT is listed, `InvalidDsdtAddress` if
-    /// that FADT gives no address, and with the error of the table there: `MapFailed`,
-    /// `SdtInvalidSignature` and so on, carrying the DSDT's signature.
+    /// Fails, in this order, with `TableMissing` if no accepted FADT is listed, `InvalidDsdtAddress` if that FADT
+    /// has no address of a DSDT, and with the error of the table there: `MapFailed`, `SdtInvalidSignature` and so
+    /// on, with the DSDT's signature.
     #[tactic(auto, using(crate::proofs::Agreed::dsdt_from_tables))]
     pub fn dsdt(&self) -> AcpiResult<AmlTable>
         requires { AllowsBelow self.now (accepted_dsdt_ranges (accept_of self.now)) }
         ensures exact { result ≡ of_tables self.now (accepted_dsdt (accept_of self.now)) }
-        // It depends on what the lookup of the FADT depends on, and on the table led to.
+        // It depends on what the lookup of the FADT depends on, and on the DSDT.
         ensures footprint { FootprintBelow self.now (accepted_dsdt_ranges (accept_of self.now))
             (accepted_dsdt (accept_of self.now))
-            (λ said. result ≡ said) }
+            (λ expected. result ≡ expected) }
     {
         let fadt = self.find_fadt()?;
         let accept = self.policy.bits();
@@ -189,9 +189,9 @@ impl<'h, H: Lender, P: Policy> AcpiTables<'h, H, P> {
         )
     }
 
-    /// Why members were passed over in a lookup of `T`: the address and the error of each member
-    /// before the first one that is accepted for `T` (of all members if none is) whose error isn't
-    /// `SdtInvalidSignature`, in order. It gives at most one for each pointer.
+    /// Why a lookup of `T` skipped members: the address and the error of each member before the first one that is
+    /// accepted for `T`, or of all members if none is, in order. A member with another signature
+    /// (`SdtInvalidSignature`) is left out. There is at most one for each pointer.
     pub fn faults<T: AcpiTable>(&self) -> TableFaults<'_, 'h, H, T>
         requires { AllowsBelow self.now (λ m. lookup_ranges m (accepted_by self.now T.kind)) }
         ensures items { faults_left H.memory T.kind result
@@ -200,7 +200,7 @@ impl<'h, H: Lender, P: Policy> AcpiTables<'h, H, P> {
         ensures fits { length (faults_left H.memory T.kind result) < 2 ^ 32 }
         // They depend on the bytes that the lookup depends on.
         ensures footprint { FootprintBelow self.now (λ m. lookup_ranges m (accepted_by self.now T.kind)) (λ n ps. Ok (faults_of n (accepted_by self.now T.kind) ps))
-            (λ said. said ≡ Ok (faults_left H.memory T.kind result)) }
+            (λ expected. expected ≡ Ok (faults_left H.memory T.kind result)) }
     {
         TableFaults::new(self.root.handler(), self.pointers(), self.policy.bits())
     }
@@ -216,7 +216,7 @@ impl<'h, H: Lender> AcpiTables<'h, H> {
     ghost use Rattle.acpi.specs.Walks.{headers_left};
 
     /// The headers (section 5.2.6) of all members that are valid under the signatures that they have, in
-    /// order. It gives at most one for each pointer.
+    /// order, at most one for each pointer.
     pub fn headers(&self) -> SdtHeaderIterator<'_, 'h, H>
         requires { AllowsBelow self.now header_ranges }
         ensures items { headers_left H.memory result
@@ -225,10 +225,10 @@ impl<'h, H: Lender> AcpiTables<'h, H> {
         ensures fits { length (headers_left H.memory result) < 2 ^ 32 }
         // They depend on the root table and the members, each under its own signature.
         ensures footprint { FootprintBelow self.now header_ranges (λ n ps. Ok (valid_headers n ps))
-            (λ said. said ≡ Ok (headers_left H.memory result)) }
+            (λ expected. expected ≡ Ok (headers_left H.memory result)) }
         // They are the same wherever the valid tables lie.
         ensures relocation { Relocation self.now (λ n ps. Ok (valid_headers n ps))
-            (λ said. said ≡ Ok (headers_left H.memory result)) }
+            (λ expected. expected ≡ Ok (headers_left H.memory result)) }
     {
         SdtHeaderIterator::new(self.root.handler(), self.pointers())
     }

@@ -80,7 +80,7 @@ msi_frame_in revision _ = None
 
 -- what each entry of some kind contains, in order; Revision of the table is its byte 8
 abbrev pub items_of : {T : Type 0} → (ℕ → MadtEntry → Option T) → List ℕ → List T
-items_of said_in table = filter_map (said_in (field_of table 8 1)) (entries_of table)
+items_of part_in table = filter_map (part_in (field_of table 8 1)) (entries_of table)
 
 -- the first distributor, unless the entries end before the table does
 abbrev pub distributor_of : List ℕ → Result (Option GicDistributor) AcpiError

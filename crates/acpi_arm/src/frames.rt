@@ -1,10 +1,13 @@
 //! The frames of a GT Block (section 5.2.24.1.1).
 ghost use Rattle.std.specs.Prelude.{◌≡◌, ◌≤◌};
-ghost use Rattle.acpi_arm.specs.Timers.{frame_at, interrupt_at};
+ghost use Rattle.acpi_arm.specs.Timers.{interrupt_at};
 
-use crate::interrupt::{polarity_in, trigger_in, unless_ones};
-use acpi_base::bytes::{field, has_bit, skip};
+mod readings;
+
+use crate::interrupt::{polarity_in, trigger_in};
+use acpi_base::bytes::{field, skip};
 use acpi_base::model::{Polarity, TriggerMode};
+use readings::frame_at;
 
 /// How many bytes the structure of a frame has.
 pub(crate) const FRAME_LENGTH: usize = 40;
@@ -44,7 +47,7 @@ pub struct GtFrame {
 }
 
 /// The interrupt whose number and flags are at an offset. A byte past the end is read as zero.
-pub(crate) fn interrupt_in(bytes: &[u8], offset: usize) -> TimerInterrupt
+fn interrupt_at(bytes: &[u8], offset: usize) -> TimerInterrupt
     requires { offset ≤ 64 }
     ensures { result ≡ interrupt_at bytes.now offset }
 {
@@ -53,22 +56,6 @@ pub(crate) fn interrupt_in(bytes: &[u8], offset: usize) -> TimerInterrupt
         interrupt: field(bytes, offset, 4) as u32, // GSIV
         trigger_mode: trigger_in(flags, 0), // Timer interrupt Mode
         polarity: polarity_in(flags, 1), // Timer Interrupt polarity
-    }
-}
-
-/// The frame that the bytes begin with. A byte past the end is read as zero.
-fn frame_in(bytes: &[u8]) -> GtFrame
-    ensures { result ≡ frame_at bytes.now }
-{
-    let common_flags = field(bytes, 36, 4); // GTx Common Flags
-    GtFrame {
-        number: field(bytes, 0, 1) as u8, // GT Frame Number
-        base: field(bytes, 4, 8), // GTx Physical address (CntBaseX)
-        el0_base: unless_ones(field(bytes, 12, 8)), // GTx Physical address (CntEL0BaseX)
-        physical_timer: interrupt_in(bytes, 20), // GTx Physical Timer GSIV, GTx Physical Timer Flags
-        virtual_timer: interrupt_in(bytes, 28), // GTx Virtual Timer GSIV, GTx Virtual Timer Flags
-        is_secure: has_bit(common_flags, 0), // Secure Timer
-        is_always_on: has_bit(common_flags, 1), // Always-on Capability
     }
 }
 
@@ -107,7 +94,7 @@ impl Iterator for GtFrameIter<'_> {
         if self.left == 0 {
             return None;
         }
-        let frame = frame_in(self.rest);
+        let frame = frame_at(self.rest);
         self.rest = skip(self.rest, FRAME_LENGTH);
         self.left -= 1;
         Some(frame)

@@ -3,6 +3,8 @@
 ghost use Rattle.std.specs.Prelude.{◌≡◌, ◌+◌, ◌≤◌, length};
 ghost use Rattle.acpi_arm.specs.Gtdt.{arm_timer_at};
 
+mod readings;
+
 pub use crate::frames::{GtFrame, GtFrameIter, TimerInterrupt};
 use crate::interrupt::{polarity_in, trigger_in, unless_ones};
 pub use crate::structures::TimerStructureIter;
@@ -10,11 +12,12 @@ pub use crate::timers::{
     GtBlock, PlatformTimer, PlatformTimerIter, SbsaWatchdog, frames_end, is_sound, timer_bytes,
     timer_count, timers_grammar, timers_offset,
 };
-use acpi_base::bytes::{field_in, has_bit, u32_in};
+use acpi_base::bytes::{has_bit, u32_in};
 use acpi_base::extended::ExtendedField;
 use acpi_base::model::{Polarity, TriggerMode};
 use acpi_base::sdt::SdtHeader;
 use acpi_base::{PhysicalRecord, SdtTable, Signature};
+use readings::gtdt_at;
 
 /// A timer that every processor has, by its GSIV and its flags in a GTDT (section 5.2.24).
 #[derive(Clone, Copy, Debug)]
@@ -39,12 +42,12 @@ impl PhysicalRecord for ArmTimer {
     ghost reading = { λ b. arm_timer_at b 0 };
 
     fn read(bytes: &[u8]) -> Self {
-        timer_in(bytes, 0)
+        arm_timer_at(bytes, 0)
     }
 }
 
 /// The timer whose interrupt and flags are at an offset.
-fn timer_in(bytes: &[u8], offset: usize) -> ArmTimer
+fn arm_timer_at(bytes: &[u8], offset: usize) -> ArmTimer
     requires { offset + 8 ≤ length bytes.now }
     ensures { result ≡ arm_timer_at bytes.now offset }
 {
@@ -90,20 +93,8 @@ impl PhysicalRecord for Gtdt {
 
     ghost reading = { gtdt_at };
 
-    #[tactic(auto, unfolding(crate::specs::Gtdt::gtdt_at))]
     fn read(bytes: &[u8]) -> Self {
-        Gtdt {
-            header: SdtHeader::read(bytes),
-            control_base: field_in(bytes, 36, 8), // CntControlBase Physical Address
-            secure_el1_timer: timer_in(bytes, 48), // Secure EL1 Timer GSIV, Secure EL1 Timer Flags
-            non_secure_el1_timer: timer_in(bytes, 56), // Non-Secure EL1 Timer GSIV, Non-Secure EL1 Timer Flags
-            virtual_el1_timer: timer_in(bytes, 64), // Virtual EL1 Timer GSIV, Virtual EL1 Timer Flags
-            el2_timer: timer_in(bytes, 72), // EL2 Timer GSIV, EL2 Timer Flags
-            read_base: field_in(bytes, 80, 8), // CntReadBase Physical Address
-            platform_timer_count: u32_in(bytes, 88), // Platform Timer Count
-            platform_timer_offset: u32_in(bytes, 92), // Platform Timer Offset
-            el2_virtual: ExtendedField::read(bytes, 96), // Virtual EL2 Timer GSIV, Virtual EL2 Timer Flags
-        }
+        gtdt_at(bytes)
     }
 }
 

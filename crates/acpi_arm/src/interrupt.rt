@@ -1,6 +1,5 @@
 //! The trigger mode and the polarity of an interrupt of an Arm machine, by bits of its flags.
 ghost use Rattle.std.specs.Prelude.{◌≡◌, ◌<◌};
-ghost use Rattle.acpi_base.specs.Words.{field_of};
 ghost use Rattle.acpi_arm.specs.Gtdt.{polarity_in, trigger_in, unless_ones};
 
 use acpi_base::bytes::has_bit;

@@ -1,12 +1,14 @@
 //! The Platform Timer Structures of a GTDT, one at a time (section 5.2.24.1).
 ghost use Rattle.std.specs.Prelude.{◌≡◌, option_map};
-ghost use Rattle.acpi_arm.specs.Timers.{frames_end, frames_fit, frames_there, is_sound, shown_in, timer_bytes, timer_count, timer_with, timers_grammar, timers_offset, watchdog_at};
+ghost use Rattle.acpi_arm.specs.Timers.{frames_end, frames_fit, frames_there, is_sound, shown_in, timer_bytes, timer_count, timer_with, timers_grammar, timers_offset};
+
+mod readings;
 
 use crate::frames::{FRAME_LENGTH, GtFrameIter};
-use crate::interrupt::{polarity_in, trigger_in};
-use acpi_base::bytes::{field, has_bit, skip};
+use acpi_base::bytes::{field, skip};
 use acpi_base::entries::{EntryLayout, Grammar, Place, Width, split_front};
 use acpi_base::model::{Polarity, TriggerMode};
+use readings::watchdog_at;
 
 /// GT Block: a block of timers in memory (section 5.2.24.1.1).
 #[derive(Clone, Copy)]
@@ -121,24 +123,9 @@ impl<'a> PlatformTimer<'a> {
                     frames: GtFrameIter::over(frames, frame_count),
                 }))
             }
-            1 => Some(PlatformTimer::SbsaWatchdog(watchdog_in(structure))),
+            1 => Some(PlatformTimer::SbsaWatchdog(watchdog_at(structure))),
             _ => None,
         }
-    }
-}
-
-/// The watchdog that a structure describes.
-fn watchdog_in(structure: &[u8]) -> SbsaWatchdog
-    ensures { result ≡ watchdog_at structure.now }
-{
-    let flags = field(structure, 24, 4) as u32; // Watchdog Timer Flags
-    SbsaWatchdog {
-        refresh_frame: field(structure, 4, 8), // RefreshFrame Physical Address
-        control_frame: field(structure, 12, 8), // WatchdogControlFrame Physical Address
-        interrupt: field(structure, 20, 4) as u32, // Watchdog Timer GSIV
-        trigger_mode: trigger_in(flags, 0), // Timer interrupt Mode
-        polarity: polarity_in(flags, 1), // Timer Interrupt polarity
-        is_secure: has_bit(flags as u64, 2), // Secure Timer
     }
 }
 

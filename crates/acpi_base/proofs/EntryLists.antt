@@ -1,10 +1,10 @@
 -- The entries of a MADT and of an MCFG: what their bytes say, and how many there are.
 use Rattle.std.proofs.Common.{◌≡◌, ℕ, List, [], ◌∷◌, Option, Some, None, option_and_then, Result, refl, ap, ◌≤◌, ◌++◌, get_or, ◌∙◌, arith, append_assoc, suc, ◌*◌, ◌-◌, length, length-drop, drop, Err, sym, length-append, zero, ◌/◌, true, false, slice_get, filter_map, option_map}
 use Rattle.acpi_base.specs.FromStd.{cons_option, concat, AllByRecursion, result_err, result_ok}
-use Rattle.acpi_base.specs.Words.{item_of, entry_of, madt_grammar, madt_layout, cut_of, entries_of, fault_in, item_in, fault_of, first_fault, processor_in, processors_of, item_said, said_of, model_counts, said_in, MadtError, MadtEntry, MadtItem, Processor, ProcessorInfo, IsEntry, after_one, cut, with_entry, BeginsDefined, InvalidEntryLength, InvalidMadt, mcfg_entries_in, mcfg_entries_of, whole_mcfg_entries}
+use Rattle.acpi_base.specs.Words.{item_of, entry_of, madt_grammar, madt_layout, cut_of, entries_of, fault_in, item_in, fault_of, first_fault, processor_in, processors_of, item_of_entry, item_or_fault_of, model_counts, items_or_faults_in, MadtError, MadtEntry, MadtItem, Processor, ProcessorInfo, IsEntry, after_one, cut, with_entry, BeginsDefined, InvalidEntryLength, InvalidMadt, mcfg_entries_in, mcfg_entries_of, whole_mcfg_entries}
 use Rattle.acpi_base.specs.declared.model.item.MadtItem.TheVariants as item
 use Rattle.acpi_base.proofs.FromStd.{get_or_append_left}
-use Rattle.acpi_base.proofs.Cuts.{cut_is_cut}
+use Rattle.acpi_bytes.proofs.Cuts.{cut_is_cut}
 
 one_fault : (o : Option MadtEntry) (xs : List (Result MadtItem MadtError)) (ys : List MadtEntry)
     → filter_map result_err xs ≡ filter_map fault_in ys
@@ -12,9 +12,9 @@ one_fault : (o : Option MadtEntry) (xs : List (Result MadtItem MadtError)) (ys :
 one_fault None xs ys same = same
 one_fault (Some e) xs ys same = ap (cons_option (result_err (item_of e))) same
 
-pub said_faults : (es : List (List ℕ)) → filter_map result_err (filter_map said_of es)
+pub said_faults : (es : List (List ℕ)) → filter_map result_err (filter_map item_or_fault_of es)
     ≡ filter_map fault_in (filter_map entry_of es)
-unfolding said_of
+unfolding item_or_fault_of
 said_faults [] = refl
 said_faults (e ∷ es) = one_fault (entry_of e) _ _ (said_faults es)
 
@@ -24,9 +24,9 @@ one_item : (o : Option MadtEntry) (xs : List (Result MadtItem MadtError)) (ys : 
 one_item None xs ys same = same
 one_item (Some e) xs ys same = ap (cons_option (result_ok (item_of e))) same
 
-pub said_items : (es : List (List ℕ)) → filter_map result_ok (filter_map said_of es)
+pub said_items : (es : List (List ℕ)) → filter_map result_ok (filter_map item_or_fault_of es)
     ≡ filter_map item_in (filter_map entry_of es)
-unfolding said_of
+unfolding item_or_fault_of
 said_items [] = refl
 said_items (e ∷ es) = one_item (entry_of e) _ _ (said_items es)
 
@@ -37,9 +37,9 @@ more_said None xs = refl
 more_said (Some r) xs = refl
 
 pub said_more : (e : List ℕ) (es : List (List ℕ))
-    → filter_map result_ok (filter_map said_of (e ∷ es)) ≡ cons_option (item_said e)
-    (filter_map result_ok (filter_map said_of es))
-said_more e es = more_said (said_of e) _
+    → filter_map result_ok (filter_map item_or_fault_of (e ∷ es)) ≡ cons_option (item_of_entry e)
+    (filter_map result_ok (filter_map item_or_fault_of es))
+said_more e es = more_said (item_or_fault_of e) _
 
 abbrev pub info : {A : Type 0} → Processor → List Processor → ProcessorInfo A
 info boot others = record { boot_processor = boot; application_processors = others }
@@ -152,10 +152,10 @@ entries_few table = omega (
   length-drop 44 table,
 )
 
-pub said_few : (table : List ℕ) → 2 * length (filter_map said_of (cut_of table).0) ≤ length table - 44
+pub said_few : (table : List ℕ) → 2 * length (filter_map item_or_fault_of (cut_of table).0) ≤ length table - 44
 said_few table = omega (
   arith,
-  length-filter_map said_of (cut madt_grammar (drop 44 table)).0,
+  length-filter_map item_or_fault_of (cut madt_grammar (drop 44 table)).0,
   cut_few (drop 44 table),
   length-drop 44 table,
 )
@@ -167,16 +167,18 @@ fault_at_rest faults (b ∷ rest) none some = rw none refl
 
 -- a walk that refused no entry, and ends with bytes left
 pub counted_short : (table rest : List ℕ) → cut madt_grammar rest ≡ ([], rest) → 1 ≤ length rest
-    → filter_map result_err (said_in rest) ≡ filter_map fault_in (entries_of table)
+    → filter_map result_err (items_or_faults_in rest) ≡ filter_map fault_in (entries_of table)
     → (cut madt_grammar rest).1 ≡ (cut_of table).1 → Err (InvalidMadt InvalidEntryLength) ≡ model_counts table
 counted_short table rest stuck some passed same =
-    let said : filter_map result_err (said_in rest) ≡ [] = rw stuck refl in
+    let faults_are : filter_map result_err (items_or_faults_in rest) ≡ [] = rw stuck refl in
     let left : rest ≡ (cut_of table).1 = ap (λ x. x.1) (sym stuck) ∙ same in
-    let fault : fault_of table ≡ Some InvalidEntryLength = fault_at_rest _ _ (sym passed ∙ said) (rw left at some) in
+    let fault : fault_of table ≡ Some InvalidEntryLength = fault_at_rest _ _ (sym passed
+    ∙ faults_are) (rw left at some) in
     rw (fault, model_counts) refl
 
-pub items_few : (table : List ℕ) → 2 * length (filter_map result_ok (said_in (drop 44 table))) ≤ length table - 44
-items_few table = omega (arith, length-filter_map result_ok (said_in (drop 44 table)), said_few table)
+pub items_few : (table : List ℕ)
+    → 2 * length (filter_map result_ok (items_or_faults_in (drop 44 table))) ≤ length table - 44
+items_few table = omega (arith, length-filter_map result_ok (items_or_faults_in (drop 44 table)), said_few table)
 
 -- ---- how many regions an MCFG has
 

@@ -5,8 +5,8 @@
 use Rattle.std.proofs.Common.{◌≡◌, ℕ, ◌≤◌, Bool, true, false, ◌&&◌, ◌+◌, List, length, take, drop, lit≤, Option, Some, None, Result, Ok, Err, refl, sym, ap, subst, ◌∙◌, arith, if◌then◌else◌, ◌==◌, nat_le, bytes_eq}
 use Rattle.acpi_base.specs.FromStd.{result_ok, is_utf8}
 use Rattle.acpi_base.proofs.FromStd.{and_from, and_parts, leb-true, le-leb, ne_eqb, drop-take, length-take-le, take-take, cond_some, bytes_eq-Decides, take-length}
-use Rattle.acpi_base.proofs.LentRanges.{at-front, lent_bytes}
-use Rattle.acpi_base.proofs.Steps.{bind_ok, holds_ok, some_lent, same_ok}
+use Rattle.acpi_bytes.proofs.LentRanges.{at-front, lent_bytes}
+use Rattle.acpi_bytes.proofs.Steps.{bind_ok, holds_ok, some_lent, same_ok}
 use Rattle.acpi_base.specs.Words.{IsBytes, field_of, part, sum_of, unchecked, check_names, check_table, header_at, Memory, IsMemory, at, rest_from, DependsOn, accepted, own_accepted, own_accepted_ranges, own_kind, own_table_ranges, table_ranges, ◌>>=◌, holds, lent, kind, own_table_at, plain_kind, sdt_kind, table_at, Kind, AcpiError, SdtInvalidChecksum, SdtInvalidLength, SdtInvalidSignature, SdtHeader, Signature, letters_of}
 
 abbrev only : {A : Type 0} → Bool → Option A → Option A

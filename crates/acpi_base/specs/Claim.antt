@@ -1,7 +1,7 @@
 -- What a claim shows.
 use Rattle.std.specs.Prelude.{◌≡◌, ◌+◌, ◌^◌, ◌<◌, ◌≤◌, ℕ, List, length, take, Some, Ok}
-use Rattle.acpi_base.specs.Memory.{Memory, at}
-use Rattle.acpi_base.specs.Table.{Kind}
+use Rattle.acpi_bytes.specs.Memory.{Memory, at}
+use Rattle.acpi_bytes.specs.Table.{Kind}
 use Rattle.acpi_base.specs.declared.memory.claim.Claim.{Claim}
 
 -- where the mapped bytes start

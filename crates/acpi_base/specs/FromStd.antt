@@ -3,15 +3,7 @@ pub use Rattle.std.specs.BTreeMap.{
   BTreeMap,
   get,
 }
-pub use Rattle.std.specs.Borrow.{
-  Array,
-  Bor,
-  Fml,
-  Lends,
-  MutBor,
-  RattleType,
-  sem,
-}
+pub use Rattle.std.specs.Borrow.{Bor}
 pub use Rattle.std.specs.Char.{
   digit_value,
   is_digit,
@@ -21,8 +13,6 @@ pub use Rattle.std.specs.Coded.{
   Unit-prop,
   le_prop,
   ×_prop,
-  Π_prop,
-  →_prop,
 }
 unfoldable pub use Rattle.std.specs.Fmt.{digits}
 pub use Rattle.std.specs.Fs.{
@@ -49,7 +39,6 @@ pub use Rattle.std.specs.Iterator.{
 pub use Rattle.std.specs.List.{
   AllByRecursion,
   AllByRecursion-prop,
-  AllZip,
   after_first,
   before_first,
   concat,
@@ -83,24 +72,15 @@ pub use Rattle.std.specs.Result.{
   result_ok,
   result_unwrap_or,
 }
-pub use Rattle.std.specs.Simd.Lanes.{
-  Each1,
-  chunk,
-  fold_l,
-  zip2,
-}
 pub use Rattle.std.specs.Str.{trim}
 unfoldable pub use Rattle.std.specs.Str.{
   chars,
   is_utf8,
   trim_start,
 }
-pub use Rattle.std.specs.Str.Lossy.{valid_len_up_to}
-unfoldable pub use Rattle.std.specs.Str.Lossy.{utf8_valid_len}
 pub use Rattle.std.specs.Str.Parse.{
   AllDigits,
   ParsesUnsigned,
   digits_value,
   without_leading_plus,
 }
-pub use Rattle.std.specs.declared.alloc.Allocator.{Ghosts}

@@ -1,9 +1,9 @@
 -- What one entry of the MADT contains of interrupts and processors (ACPI 6.4, section 5.2.12).
 use Rattle.std.specs.Prelude.{ℕ, ◌==◌, ◌&&◌, Bool, nat_le, Option, Some, None, Result, Ok, Err, if◌then◌else◌}
 use Rattle.acpi_base.specs.FromStd.{result_err, result_unwrap_or}
-use Rattle.acpi_base.specs.Bits.{bits_of, has_bit}
+use Rattle.acpi_bytes.specs.Bits.{bits_of, has_bit}
 use Rattle.acpi_base.specs.Codes.{all_apics, all_x2apics, line_of, polarity_for, processor_for, trigger_for}
-use Rattle.acpi_base.specs.Steps.{◌>>=◌}
+use Rattle.acpi_bytes.specs.Steps.{◌>>=◌}
 use Rattle.acpi_base.specs.Types.{MadtError, InterruptOverrideEntryHasInvalidBus, UnexpectedEntry, InterruptSourceOverrideEntry, IoApicEntry, NmiSourceEntry, MadtEntry, InterruptSourceOverride, IoApic, Lint0, NmiLine, NmiProcessor, NmiSource, Polarity, TriggerMode, MadtItem}
 use Rattle.acpi_base.specs.declared.tables.madt.entry.MadtEntry.TheVariants as variants
 use Rattle.acpi_base.specs.declared.model.item.MadtItem.TheVariants as item

@@ -1,27 +1,27 @@
 -- What a walk along the MADT's entries shows of what they say.
 use Rattle.std.specs.Prelude.{ℕ, ◌+◌, ◌||◌, List, length, false, true, Option, None, Some, option_and_then, Result, Ok, Err, filter_map, option_map}
 use Rattle.acpi_base.specs.FromStd.{last_or, list_any, result_err, result_ok}
-use Rattle.acpi_base.specs.Entries.{cut}
+use Rattle.acpi_bytes.specs.Entries.{cut}
 use Rattle.acpi_base.specs.Interrupts.{item_of}
 use Rattle.acpi_base.specs.Madt.{entry_of, madt_grammar}
 use Rattle.acpi_base.specs.Model.{fault_of, io_apic_in, is_of_apic, local_apic_address_in, nmi_line_in, nmi_source_in, override_in, items_of, processor_in}
 use Rattle.acpi_base.specs.Types.{AcpiError, InvalidMadt, MadtError, Counts, MadtItem, MadtItems}
 
 -- what an entry's bytes say, or why it is refused; nothing if its type isn't defined
-unfoldable pub said_of : List ℕ → Option (Result MadtItem MadtError)
-said_of e = option_map item_of (entry_of e)
+unfoldable pub item_or_fault_of : List ℕ → Option (Result MadtItem MadtError)
+item_or_fault_of e = option_map item_of (entry_of e)
 
 -- what an entry says, if its type is defined and it isn't refused
-abbrev pub item_said : List ℕ → Option MadtItem
-item_said e = option_and_then result_ok (said_of e)
+abbrev pub item_of_entry : List ℕ → Option MadtItem
+item_of_entry e = option_and_then result_ok (item_or_fault_of e)
 
 -- why an entry is refused, if its type is defined and it is
-abbrev pub fault_said : List ℕ → Option MadtError
-fault_said e = option_and_then result_err (said_of e)
+abbrev pub fault_of_entry : List ℕ → Option MadtError
+fault_of_entry e = option_and_then result_err (item_or_fault_of e)
 
 -- what the entries in which these bytes are cut say, and the refusals
-abbrev pub said_in : List ℕ → List (Result MadtItem MadtError)
-said_in bytes = filter_map said_of (cut madt_grammar bytes).0
+abbrev pub items_or_faults_in : List ℕ → List (Result MadtItem MadtError)
+items_or_faults_in bytes = filter_map item_or_fault_of (cut madt_grammar bytes).0
 
 -- how many there are of each, and where the local APICs lie, if these counts have been made and these items come after
 -- them
@@ -59,4 +59,4 @@ model_counts table = elim (fault_of table) [
 
 -- the items that are still to come in a walk
 abbrev pub items_left : MadtItems → List MadtItem
-items_left s = filter_map result_ok (said_in s.rest.now)
+items_left s = filter_map result_ok (items_or_faults_in s.rest.now)

@@ -1,9 +1,9 @@
 -- The entries of the MADT (ACPI 6.4, section 5.2.12).
 use Rattle.std.specs.Prelude.{ℕ, List, [], ◌∷◌, map, drop, slice_get, slice_index, Option, Some, None, Result, filter_map, ok_or, option_map}
-use Rattle.acpi_base.specs.Bytes.{field_of}
-use Rattle.acpi_base.specs.Header.{header_at}
+use Rattle.acpi_bytes.specs.Bytes.{field_of}
+use Rattle.acpi_bytes.specs.Header.{header_at}
 use Rattle.acpi_base.specs.Types.{AcpiError, InvalidMadt, MadtError, InvalidEntryLength, UnexpectedEntry, Madt, EntryLayout, Grammar, One, MadtEntry}
-use Rattle.acpi_base.specs.Entries.{cut}
+use Rattle.acpi_bytes.specs.Entries.{cut}
 use Rattle.acpi_base.specs.MadtEntries as entries
 use Rattle.acpi_base.specs.declared.tables.madt.entry.MadtEntry.TheVariants as variants
 

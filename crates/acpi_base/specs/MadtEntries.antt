@@ -1,13 +1,16 @@
 -- The fields of the MADT's entries, each at its place in the entry (ACPI 6.4, section 5.2.12). A field past the end of
 -- an entry is read as zeros.
 use Rattle.std.specs.Prelude.{ℕ, List}
-use Rattle.acpi_base.specs.Bytes.{field_of}
-use Rattle.acpi_base.specs.Extended.{extended_at}
+use Rattle.acpi_bytes.specs.Bytes.{field_of}
+use Rattle.acpi_bytes.specs.Extended.{extended_at}
 use Rattle.acpi_base.specs.Types.{EntryHeader, LocalApicEntry, IoApicEntry, InterruptSourceOverrideEntry, NmiSourceEntry, LocalApicNmiEntry, LocalApicAddressOverrideEntry, LocalX2ApicEntry, X2ApicNmiEntry, IoSapicEntry, LocalSapicEntry, PlatformInterruptSourceEntry, GiccEntry, GicdEntry, GicMsiFrameEntry, GicRedistributorEntry, GicInterruptTranslationServiceEntry, MultiprocessorWakeupEntry}
 
--- what each entry begins with: Type at 0, Length at 1
+-- what each entry begins with
 abbrev pub entry_header_at : List ℕ → EntryHeader
-entry_header_at b = record { entry_type = field_of b 0 1; length = field_of b 1 1 }
+entry_header_at b = record {
+  entry_type = field_of b 0 1;  -- Type
+  length = field_of b 1 1;  -- Length
+}
 
 -- Processor Local APIC: section 5.2.12.2
 abbrev pub local_apic_at : List ℕ → LocalApicEntry

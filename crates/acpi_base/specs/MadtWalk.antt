@@ -1,7 +1,7 @@
 -- What a walk along the MADT's entries shows. It begins with the table's `entries_of` and the rest of its `cut_of`, and
 -- each step gives the first entry that is left.
 use Rattle.std.specs.Prelude.{◌≡◌, ◌&&◌, Bool, true, false, ℕ, List, [], ◌∷◌, ◌≤◌, Option, Some, None, slice_index, filter_map}
-use Rattle.acpi_base.specs.Entries.{cut}
+use Rattle.acpi_bytes.specs.Entries.{cut}
 use Rattle.acpi_base.specs.Madt.{entry_of, madt_grammar}
 use Rattle.acpi_base.specs.Types.{MadtEntry, MadtEntryIter}
 

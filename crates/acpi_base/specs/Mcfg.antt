@@ -1,8 +1,8 @@
 -- The regions of PCI configuration space (signature MCFG; ACPI 6.4, section 5.2.6). The layout is that of the PCI
 -- Firmware Specification, section 4.1.2.
 use Rattle.std.specs.Prelude.{ℕ, ◌/◌, zero, suc, List, [], ◌∷◌, length, drop}
-use Rattle.acpi_base.specs.Bytes.{field_of}
-use Rattle.acpi_base.specs.Header.{header_at}
+use Rattle.acpi_bytes.specs.Bytes.{field_of}
+use Rattle.acpi_bytes.specs.Header.{header_at}
 use Rattle.acpi_base.specs.Types.{Mcfg, McfgEntry, McfgEntryIter}
 
 -- what a table's first bytes mean

@@ -1,7 +1,7 @@
 -- The interrupt model: what the entries of the MADT contain together (ACPI 6.4, section 5.2.12).
 use Rattle.std.specs.Prelude.{◌≡◌, ℕ, Bool, true, false, List, [], ◌∷◌, Option, Some, None, Result, Ok, Err, IsTrue, if◌then◌else◌, filter_map}
 use Rattle.acpi_base.specs.FromStd.{list_any, result_err, result_ok}
-use Rattle.acpi_base.specs.Bits.{has_bit}
+use Rattle.acpi_bytes.specs.Bits.{has_bit}
 use Rattle.acpi_base.specs.Interrupts.{item_of}
 use Rattle.acpi_base.specs.Madt.{cut_of, entries_of, madt_at}
 use Rattle.acpi_base.specs.Types.{AcpiError, InvalidMadt, MadtError, InvalidEntryLength, Madt, MadtEntry, Apic, InterruptModel, InterruptSourceOverride, IoApic, NmiLine, NmiSource, MadtItem, Processor, ProcessorInfo, ProcessorState, Disabled, Running, WaitingForSipi}

@@ -3,11 +3,11 @@
 use Rattle.std.specs.Prelude.{◌≡◌, ℕ, ◌==◌, ◌&&◌, Bool, true, List, [], ◌∷◌, All, nat_le, Result, Ok, Err}
 use Rattle.acpi_base.specs.FromStd.{AllByRecursion, list_any}
 use Rattle.acpi_base.specs.Types.{SdtInvalidLength}
-use Rattle.acpi_base.specs.Header.{header_at}
-use Rattle.acpi_base.specs.Memory.{Memory, at}
-use Rattle.acpi_base.specs.Steps.{holds, lent}
-use Rattle.acpi_base.specs.Accepted.{own_kind}
-use Rattle.acpi_base.specs.Table.{Kind}
+use Rattle.acpi_bytes.specs.Header.{header_at}
+use Rattle.acpi_bytes.specs.Memory.{Memory, at}
+use Rattle.acpi_bytes.specs.Steps.{holds, lent}
+use Rattle.acpi_bytes.specs.Accepted.{own_kind}
+use Rattle.acpi_bytes.specs.Table.{Kind}
 
 -- each an address and a number of bytes
 abbrev pub Ranges : Type 0

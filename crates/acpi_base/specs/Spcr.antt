@@ -1,12 +1,12 @@
 -- The Serial Port Console Redirection table (signature SPCR; ACPI 6.4, section 5.2.6). The layout is Microsoft's.
 use Rattle.std.specs.Prelude.{ℕ, ◌+◌, ◌==◌, nat_le, nat_lt, List, length, replicate, Option, Some, None, Result, Ok, Err, if◌then◌else◌, bytes_eq}
 use Rattle.acpi_base.specs.FromStd.{option_or, is_utf8}
-use Rattle.acpi_base.specs.Address.{generic_address_of}
-use Rattle.acpi_base.specs.Bits.{bits_of, has_bit}
-use Rattle.acpi_base.specs.Bytes.{field_of, filled_part, part}
+use Rattle.acpi_bytes.specs.Address.{generic_address_of}
+use Rattle.acpi_bytes.specs.Bits.{bits_of, has_bit}
+use Rattle.acpi_bytes.specs.Bytes.{field_of, filled_part, part}
 use Rattle.acpi_base.specs.Codes.{interface_of}
-use Rattle.acpi_base.specs.Header.{header_at}
-use Rattle.acpi_base.specs.Steps.{◌>>=◌, holds}
+use Rattle.acpi_bytes.specs.Header.{header_at}
+use Rattle.acpi_bytes.specs.Steps.{◌>>=◌, holds}
 use Rattle.acpi_base.specs.Types.{GenericAddress, AcpiError, InvalidNamespaceString, Spcr, SpcrInterfaceType}
 
 -- what a table's bytes mean; a field that reaches past the end is read as if zeros followed

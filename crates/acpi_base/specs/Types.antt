@@ -1,61 +1,4 @@
 -- Made by scripts/words: what the files of this crate bring in from the crates below, and its types.
-pub use Rattle.acpi_base.specs.declared.address.AccessSize.{AccessSize}
-pub use Rattle.acpi_base.specs.declared.address.AccessSize.TheVariants.{
-  ByteAccess,
-  DWordAccess,
-  QWordAccess,
-  Undefined,
-  WordAccess,
-}
-pub use Rattle.acpi_base.specs.declared.address.AddressSpace.{AddressSpace}
-pub use Rattle.acpi_base.specs.declared.address.AddressSpace.TheVariants.{
-  EmbeddedController,
-  FunctionalFixedHardware,
-  GeneralIo,
-  GenericSerialBus,
-  Ipmi,
-  OemDefined,
-  PciBarTarget,
-  PciConfigSpace,
-  PlatformCommunicationsChannel,
-  SMBus,
-  SystemCmos,
-  SystemIo,
-  SystemMemory,
-}
-pub use Rattle.acpi_base.specs.declared.address.GenericAddress.{GenericAddress}
-pub use Rattle.acpi_base.specs.declared.entries.EntryLayout.{EntryLayout}
-pub use Rattle.acpi_base.specs.declared.entries.Grammar.{Grammar}
-pub use Rattle.acpi_base.specs.declared.entries.Place.{Place}
-pub use Rattle.acpi_base.specs.declared.entries.Width.{Width}
-pub use Rattle.acpi_base.specs.declared.entries.Width.TheVariants.{
-  Four,
-  One,
-  Two,
-}
-pub use Rattle.acpi_base.specs.declared.error.AcpiError.{AcpiError}
-pub use Rattle.acpi_base.specs.declared.error.AcpiError.TheVariants.{
-  AllocError,
-  InvalidGenericAddress,
-  InvalidMadt,
-  InvalidNamespaceString,
-  MapFailed,
-  SdtInvalidChecksum,
-  SdtInvalidLength,
-  SdtInvalidOemId,
-  SdtInvalidSignature,
-  SdtInvalidTableId,
-}
-pub use Rattle.acpi_base.specs.declared.error.MadtError.{MadtError}
-pub use Rattle.acpi_base.specs.declared.error.MadtError.TheVariants.{
-  InterruptOverrideEntryHasInvalidBus,
-  InvalidEntryLength,
-  InvalidLocalNmiLine,
-  MpsIntiInvalidPolarity,
-  MpsIntiInvalidTriggerMode,
-  UnexpectedEntry,
-}
-pub use Rattle.acpi_base.specs.declared.extended.ExtendedField.{ExtendedField}
 pub use Rattle.acpi_base.specs.declared.memory.guarded.Guarded.{Guarded}
 pub use Rattle.acpi_base.specs.declared.model.builder.ModelBuilder.{ModelBuilder}
 pub use Rattle.acpi_base.specs.declared.model.counts.Counts.{Counts}
@@ -89,76 +32,6 @@ pub use Rattle.acpi_base.specs.declared.model.processor.ProcessorState.TheVarian
   Disabled,
   Running,
   WaitingForSipi,
-}
-pub use Rattle.acpi_base.specs.declared.range.AddressRange.{AddressRange}
-pub use Rattle.acpi_base.specs.declared.table.header.SdtHeader.{SdtHeader}
-pub use Rattle.acpi_base.specs.declared.table.signature.Signature.{Signature}
-pub use Rattle.acpi_base.specs.declared.table.signature.TheConstants.Signature.{
-  AEST,
-  BDAT,
-  BERT,
-  BGRT,
-  CDIT,
-  CEDT,
-  CPEP,
-  CRAT,
-  CSRT,
-  DBG2,
-  DBGP,
-  DMAR,
-  DRTM,
-  DSDT,
-  ECDT,
-  EINJ,
-  ERST,
-  ETDT,
-  FACS,
-  FADT,
-  FPDT,
-  GTDT,
-  HEST,
-  HPET,
-  IBFT,
-  IORT,
-  IVRS,
-  LPIT,
-  MADT,
-  MCFG,
-  MCHI,
-  MPAM,
-  MPST,
-  MSCT,
-  MSDM,
-  NFIT,
-  PCCT,
-  PHAT,
-  PMTT,
-  PRMT,
-  PSDT,
-  RASF,
-  RGRT,
-  RSDT,
-  SBST,
-  SDEI,
-  SDEV,
-  SLIC,
-  SLIT,
-  SPCR,
-  SPMI,
-  SRAT,
-  SSDT,
-  STAO,
-  SVKL,
-  TCPA,
-  TPM2,
-  UEFI,
-  WAET,
-  WDAT,
-  WDRT,
-  WPBT,
-  WSMT,
-  XENV,
-  XSDT,
 }
 pub use Rattle.acpi_base.specs.declared.tables.madt.Madt.{Madt}
 pub use Rattle.acpi_base.specs.declared.tables.madt.apic.InterruptSourceOverrideEntry.{InterruptSourceOverrideEntry}
@@ -214,3 +87,35 @@ pub use Rattle.acpi_base.specs.declared.tables.spcr.flags.TheConstants.SpcrTermi
   VT_UTF8,
 }
 pub use Rattle.acpi_base.specs.declared.tables.spcr.interface.SpcrInterfaceType.{SpcrInterfaceType}
+pub use Rattle.acpi_bytes.specs.declared.address.GenericAddress.{GenericAddress}
+pub use Rattle.acpi_bytes.specs.declared.entries.EntryLayout.{EntryLayout}
+pub use Rattle.acpi_bytes.specs.declared.entries.Grammar.{Grammar}
+pub use Rattle.acpi_bytes.specs.declared.entries.Width.TheVariants.{One}
+pub use Rattle.acpi_bytes.specs.declared.error.AcpiError.{AcpiError}
+pub use Rattle.acpi_bytes.specs.declared.error.AcpiError.TheVariants.{
+  InvalidGenericAddress,
+  InvalidMadt,
+  InvalidNamespaceString,
+  SdtInvalidChecksum,
+  SdtInvalidLength,
+  SdtInvalidOemId,
+  SdtInvalidSignature,
+  SdtInvalidTableId,
+}
+pub use Rattle.acpi_bytes.specs.declared.error.MadtError.{MadtError}
+pub use Rattle.acpi_bytes.specs.declared.error.MadtError.TheVariants.{
+  InterruptOverrideEntryHasInvalidBus,
+  InvalidEntryLength,
+  InvalidLocalNmiLine,
+  MpsIntiInvalidPolarity,
+  MpsIntiInvalidTriggerMode,
+  UnexpectedEntry,
+}
+pub use Rattle.acpi_bytes.specs.declared.header.SdtHeader.{SdtHeader}
+pub use Rattle.acpi_bytes.specs.declared.range.AddressRange.{AddressRange}
+pub use Rattle.acpi_bytes.specs.declared.signature.Signature.{Signature}
+pub use Rattle.acpi_bytes.specs.declared.signature.TheConstants.Signature.{
+  MADT,
+  MCFG,
+  SPCR,
+}

@@ -1,35 +1,4 @@
 -- Made by scripts/words: what proofs, contracts and the crates above bring in from this crate's specs.
-pub use Rattle.acpi_base.specs.Accepted.{
-  AcceptsNothing,
-  AcceptsValid,
-  IsGivenUp,
-  KeepsChecks,
-  KeepsNames,
-  KeepsSums,
-  OwnIsValid,
-  accepted,
-  left_of,
-  loosened,
-  own_kind,
-  own_table_at,
-}
-unfoldable pub use Rattle.acpi_base.specs.Accepted.{own_accepted}
-unfoldable pub use Rattle.acpi_base.specs.Address.{generic_address_of}
-pub use Rattle.acpi_base.specs.Bits.{
-  bits_of,
-  has_bit,
-}
-pub use Rattle.acpi_base.specs.Bytes.{
-  IsBytes,
-  filled_part,
-  number,
-  part,
-}
-unfoldable pub use Rattle.acpi_base.specs.Bytes.{
-  field_of,
-  spelling,
-  sum_of,
-}
 pub use Rattle.acpi_base.specs.Claim.{
   IsLentOf,
   IsWholeClaim,
@@ -42,21 +11,16 @@ pub use Rattle.acpi_base.specs.Claim.{
 pub use Rattle.acpi_base.specs.Codes.{
   CodesDecode,
   IsNumbering,
-  access_size_of,
   all_apics,
   all_x2apics,
   interface_code,
   interface_of,
   is_interface,
-  is_named_space,
   line_code,
   line_of,
   polarity_code,
   polarity_for,
   processor_for,
-  size_code,
-  space_code,
-  space_of,
   trigger_code,
   trigger_for,
   uid_code,
@@ -66,49 +30,9 @@ pub use Rattle.acpi_base.specs.Ecam.{
   ecam_place,
   ecam_range,
 }
-pub use Rattle.acpi_base.specs.Entries.{
-  IsCutOf,
-  IsEntry,
-  IsFew,
-  after_one,
-  cut_by,
-  is_full,
-  least_length,
-  number_at,
-  number_in,
-  width_of,
-  with_entry,
-}
-unfoldable pub use Rattle.acpi_base.specs.Entries.{
-  cut,
-  front,
-  next_front,
-}
-pub use Rattle.acpi_base.specs.EntryLaws.{
-  CutIsCut,
-  OneCut,
-}
-pub use Rattle.acpi_base.specs.ErrorText.{
-  error_text,
-  madt_error_text,
-}
-pub use Rattle.acpi_base.specs.Extended.{
-  extended_at,
-  held_of,
-  shown_of,
-}
 pub use Rattle.acpi_base.specs.Guarded.{
   guarded_by,
   listed_by,
-}
-pub use Rattle.acpi_base.specs.Header.{
-  check_ids,
-  check_signature,
-}
-unfoldable pub use Rattle.acpi_base.specs.Header.{
-  check_names,
-  check_table,
-  header_at,
 }
 pub use Rattle.acpi_base.specs.Interrupts.{
   flags_fault,
@@ -142,18 +66,13 @@ pub use Rattle.acpi_base.specs.IsaOverrides.{
 pub use Rattle.acpi_base.specs.Items.{
   counted_behind,
   counts_of,
-  fault_said,
-  item_said,
+  fault_of_entry,
+  item_of_entry,
   items_left,
+  items_or_faults_in,
   model_counts,
-  said_in,
 }
-unfoldable pub use Rattle.acpi_base.specs.Items.{said_of}
-pub use Rattle.acpi_base.specs.Laws.{
-  DamageShows,
-  FieldPastEnd,
-  LentIsInside,
-}
+unfoldable pub use Rattle.acpi_base.specs.Items.{item_or_fault_of}
 pub use Rattle.acpi_base.specs.Madt.{
   cut_of,
   entries_of,
@@ -210,22 +129,6 @@ pub use Rattle.acpi_base.specs.Mcfg.{
   whole_mcfg_entries,
 }
 unfoldable pub use Rattle.acpi_base.specs.Mcfg.{mcfg_at}
-pub use Rattle.acpi_base.specs.Memory.{
-  AreApart,
-  AreApart-prop,
-  HoldsRange,
-  IsMemory,
-  IsMemory-prop,
-  IsRegion,
-  Memory,
-  Region,
-  end_of,
-  lies_in,
-}
-unfoldable pub use Rattle.acpi_base.specs.Memory.{
-  at,
-  rest_from,
-}
 pub use Rattle.acpi_base.specs.Model.{
   AsksMemory,
   Model,
@@ -248,13 +151,11 @@ pub use Rattle.acpi_base.specs.ModelBuilder.{
   HoldsRoom,
   model_behind,
 }
-pub use Rattle.acpi_base.specs.Names.{NamesAreSpelled}
 pub use Rattle.acpi_base.specs.NmiLines.{
   is_line_of,
   lines_for,
   lines_left,
 }
-pub use Rattle.acpi_base.specs.OneRegion.{one_region}
 pub use Rattle.acpi_base.specs.Pin.{
   IsNearest,
   IsNoNearer,
@@ -263,10 +164,6 @@ pub use Rattle.acpi_base.specs.Pin.{
   nearer,
   nearest,
   pin_of,
-}
-pub use Rattle.acpi_base.specs.Range.{
-  range_fits,
-  range_holds,
 }
 pub use Rattle.acpi_base.specs.Ranges.{
   AgreesOn,
@@ -308,36 +205,9 @@ pub use Rattle.acpi_base.specs.SpcrFlags.{
   interrupt_bits,
   terminal_bits,
 }
-pub use Rattle.acpi_base.specs.Steps.{
-  Gives,
-  GivesOrFull,
-  holds,
-  lent,
-  ◌>>=◌,
-}
-pub use Rattle.acpi_base.specs.Sums.{AddsUp}
-pub use Rattle.acpi_base.specs.Table.{
-  Kind,
-  kind,
-  plain_kind,
-  sdt_kind,
-}
-unfoldable pub use Rattle.acpi_base.specs.Table.{table_at}
-pub use Rattle.acpi_base.specs.Text.{
-  IsTextOf,
-  Shows,
-  bytes_text,
-  hex_digit,
-  hex_text,
-  letters_of,
-  signature_text,
-}
 pub use Rattle.acpi_base.specs.Types.{
   AcpiError,
   Counts,
-  EntryLayout,
-  Four,
-  Grammar,
   InterruptSourceOverride,
   InvalidEntryLength,
   InvalidMadt,
@@ -348,10 +218,7 @@ pub use Rattle.acpi_base.specs.Types.{
   MadtEntry,
   MadtError,
   MadtItem,
-  MapFailed,
   ModelBuilder,
-  One,
-  Place,
   Processor,
   ProcessorInfo,
   SPCR,
@@ -362,8 +229,125 @@ pub use Rattle.acpi_base.specs.Types.{
   SdtInvalidSignature,
   SdtInvalidTableId,
   Signature,
-  Two,
-  Width,
 }
 pub use Rattle.acpi_base.specs.Wakeup.{command_of}
 pub use Rattle.acpi_base.specs.declared.memory.claim.Claim.{Claim}
+pub use Rattle.acpi_bytes.specs.Accepted.{
+  AcceptsNothing,
+  AcceptsValid,
+  IsGivenUp,
+  KeepsChecks,
+  KeepsNames,
+  KeepsSums,
+  OwnIsValid,
+  accepted,
+  left_of,
+  loosened,
+  own_kind,
+  own_table_at,
+}
+unfoldable pub use Rattle.acpi_bytes.specs.Accepted.{own_accepted}
+unfoldable pub use Rattle.acpi_bytes.specs.Address.{generic_address_of}
+pub use Rattle.acpi_bytes.specs.Bits.{
+  bits_of,
+  has_bit,
+}
+pub use Rattle.acpi_bytes.specs.Bytes.{
+  IsBytes,
+  filled_part,
+  number,
+  part,
+}
+unfoldable pub use Rattle.acpi_bytes.specs.Bytes.{
+  field_of,
+  spelling,
+  sum_of,
+}
+pub use Rattle.acpi_bytes.specs.Entries.{
+  IsCutOf,
+  IsEntry,
+  IsFew,
+  after_one,
+  cut_by,
+  least_length,
+  number_at,
+  number_in,
+  width_of,
+  with_entry,
+}
+unfoldable pub use Rattle.acpi_bytes.specs.Entries.{
+  cut,
+  front,
+}
+pub use Rattle.acpi_bytes.specs.EntryLaws.{
+  CutIsCut,
+  OneCut,
+}
+pub use Rattle.acpi_bytes.specs.ErrorText.{error_text}
+pub use Rattle.acpi_bytes.specs.Extended.{
+  extended_at,
+  shown_of,
+}
+pub use Rattle.acpi_bytes.specs.Header.{
+  check_ids,
+  check_signature,
+}
+unfoldable pub use Rattle.acpi_bytes.specs.Header.{
+  check_names,
+  check_table,
+  header_at,
+}
+pub use Rattle.acpi_bytes.specs.Laws.{
+  FieldPastEnd,
+  LentIsInside,
+}
+pub use Rattle.acpi_bytes.specs.Memory.{
+  AreApart,
+  AreApart-prop,
+  HoldsRange,
+  IsMemory,
+  IsMemory-prop,
+  IsRegion,
+  Memory,
+  Region,
+  end_of,
+  lies_in,
+}
+unfoldable pub use Rattle.acpi_bytes.specs.Memory.{
+  at,
+  rest_from,
+}
+pub use Rattle.acpi_bytes.specs.Names.{NamesAreSpelled}
+pub use Rattle.acpi_bytes.specs.OneRegion.{one_region}
+pub use Rattle.acpi_bytes.specs.Range.{
+  range_fits,
+  range_holds,
+}
+pub use Rattle.acpi_bytes.specs.Steps.{
+  Gives,
+  GivesOrFull,
+  holds,
+  lent,
+  ◌>>=◌,
+}
+pub use Rattle.acpi_bytes.specs.Table.{
+  Kind,
+  kind,
+  plain_kind,
+  sdt_kind,
+}
+unfoldable pub use Rattle.acpi_bytes.specs.Table.{table_at}
+pub use Rattle.acpi_bytes.specs.Text.{
+  IsTextOf,
+  Shows,
+  bytes_text,
+  letters_of,
+  signature_text,
+}
+pub use Rattle.acpi_bytes.specs.Words.{
+  access_size_of,
+  is_named_space,
+  size_code,
+  space_code,
+  space_of,
+}

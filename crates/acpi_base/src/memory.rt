@@ -2,5 +2,6 @@
 
 pub(crate) mod claim;
 pub mod guarded;
-pub mod handler;
 pub mod mapping;
+
+pub use acpi_bytes::handler;

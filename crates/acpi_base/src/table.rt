@@ -1,17 +1,16 @@
 //! Types of tables: the signature and the least length of each, and how it is checked (section 5.2.6).
 ghost use Rattle.std.specs.Prelude.{◌≡◌, ℕ, ◌≤◌, List, length, Ok, refl};
-ghost use Rattle.acpi_base.specs.Header.{check_names, check_table, header_at};
-ghost use Rattle.acpi_base.specs.Table.{Kind, sdt_kind};
+ghost use Rattle.acpi_bytes.specs.Header.{check_names, check_table, header_at};
+ghost use Rattle.acpi_bytes.specs.Table.{Kind, sdt_kind};
 ghost use Rattle.acpi_base.specs.Types.{Signature};
 
 pub mod header;
 mod lookup;
-pub mod signature;
-pub(crate) mod sum;
 
 use crate::bytes::byte_sum;
 use crate::error::{AcpiError, AcpiResult};
 use crate::memory::handler::PhysicalRecord;
+pub use acpi_bytes::signature;
 use header::SdtHeader;
 pub use lookup::{
     ValidTable, accepted_at, map_own_sdt, map_sdt, map_table, own_valid_by, valid_at, valid_by,

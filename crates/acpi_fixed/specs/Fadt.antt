@@ -1,13 +1,13 @@
 -- The fixed hardware: the Fixed ACPI Description Table, FADT (ACPI 6.4, section 5.2.9).
 use Rattle.std.specs.Prelude.{ℕ, Bool, true, nat_lt, List, [], ◌∷◌, slice_index_or, Option, Result}
-use Rattle.acpi_base.specs.declared.address.GenericAddress.{GenericAddress}
-use Rattle.acpi_base.specs.declared.error.AcpiError.{AcpiError}
+use Rattle.acpi_bytes.specs.declared.address.GenericAddress.{GenericAddress}
+use Rattle.acpi_bytes.specs.declared.error.AcpiError.{AcpiError}
 use Rattle.acpi_base.specs.Words.{IsNumbering, field_of, header_at}
 use Rattle.acpi_fixed.specs.declared.fadt.Fadt.{Fadt}
 use Rattle.acpi_fixed.specs.declared.fadt.PowerProfile.{PowerProfile}
 use Rattle.acpi_fixed.specs.declared.fadt.registers.Registers.{Registers}
 use Rattle.acpi_fixed.specs.Registers.{address_or, extended_number, registers_at, timer_block_of}
-use Rattle.acpi_base.specs.declared.error.AcpiError.TheVariants as refusal
+use Rattle.acpi_bytes.specs.declared.error.AcpiError.TheVariants as refusal
 use Rattle.acpi_fixed.specs.declared.fadt.PowerProfile.TheVariants as profiles
 
 -- what a table's bytes mean, in the order in which they are. A plain field that reaches past the end is read as if

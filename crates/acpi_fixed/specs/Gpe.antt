@@ -1,8 +1,8 @@
 -- The registers of general purpose events, by their length in bytes (ACPI 6.4, section 5.2.9).
 use Rattle.std.specs.Prelude.{ℕ, ◌==◌, List, Option, Some, None, Result, Ok, Err, if◌then◌else◌}
 use Rattle.acpi_base.specs.Words.{space_of, field_of, ◌>>=◌}
-use Rattle.acpi_base.specs.declared.address.AddressSpace.TheVariants.{SystemIo}
-use Rattle.acpi_base.specs.declared.error.AcpiError.{AcpiError}
+use Rattle.acpi_bytes.specs.declared.address.AddressSpace.TheVariants.{SystemIo}
+use Rattle.acpi_bytes.specs.declared.error.AcpiError.{AcpiError}
 use Rattle.acpi_fixed.specs.declared.fadt.Fadt.{Fadt}
 use Rattle.acpi_fixed.specs.declared.fadt.registers.RegisterBlock.{RegisterBlock}
 use Rattle.acpi_fixed.specs.declared.fadt.registers.gpe.GpeBlock.{GpeBlock}

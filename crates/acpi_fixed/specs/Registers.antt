@@ -2,11 +2,11 @@
 -- versions, and by an extended one (ACPI 6.4, section 5.2.9).
 use Rattle.std.specs.Prelude.{◌≡◌, ℕ, ◌+◌, ◌*◌, ◌<◌, ◌≤◌, ◌&&◌, ◌==◌, nat_le, nat_lt, Bool, if◌then◌else◌, List, length, replicate, Option, Some, None, is_none, option_map, Result, Ok, Err}
 use Rattle.acpi_base.specs.FromStd.{option_map_or}
-use Rattle.acpi_base.specs.declared.address.AccessSize.TheVariants.{Undefined}
-use Rattle.acpi_base.specs.declared.address.AddressSpace.TheVariants.{SystemIo}
-use Rattle.acpi_base.specs.declared.address.GenericAddress.{GenericAddress}
-use Rattle.acpi_base.specs.declared.error.AcpiError.{AcpiError}
-use Rattle.acpi_base.specs.declared.error.AcpiError.TheVariants.{InvalidGenericAddress}
+use Rattle.acpi_bytes.specs.declared.address.AccessSize.TheVariants.{Undefined}
+use Rattle.acpi_bytes.specs.declared.address.AddressSpace.TheVariants.{SystemIo}
+use Rattle.acpi_bytes.specs.declared.address.GenericAddress.{GenericAddress}
+use Rattle.acpi_bytes.specs.declared.error.AcpiError.{AcpiError}
+use Rattle.acpi_bytes.specs.declared.error.AcpiError.TheVariants.{InvalidGenericAddress}
 use Rattle.acpi_base.specs.Words.{generic_address_of, field_of, filled_part, ◌>>=◌, holds}
 use Rattle.acpi_fixed.specs.declared.fadt.registers.BlockFields.{BlockFields}
 use Rattle.acpi_fixed.specs.declared.fadt.registers.RegisterBlock.{RegisterBlock}

@@ -5,9 +5,12 @@ ghost use Rattle.std.proofs.Common.{lit≤};
 ghost use Rattle.acpi_base.specs.Words.{bits_of, has_bit};
 ghost use Rattle.acpi_fixed.specs.Words.{bgrt_at, image_type_of, offset_of, status_of};
 
-use acpi_base::bytes::{bits, field_in, has_bit, u8_in, u16_in, u32_in};
+mod readings;
+
+use acpi_base::bytes::{bits, has_bit};
 use acpi_base::sdt::SdtHeader;
 use acpi_base::{PhysicalRecord, SdtTable, Signature};
+use readings::bgrt_at;
 
 /// The Boot Graphics Resource Table (BGRT, section 5.2.22): an image in memory, and its place on the
 /// screen.
@@ -32,22 +35,13 @@ impl PhysicalRecord for Bgrt {
 
     ghost reading = { bgrt_at };
 
-    #[tactic(auto, unfolding(crate::specs::Bgrt::bgrt_at))]
     fn read(bytes: &[u8]) -> Self {
-        Bgrt {
-            header: SdtHeader::read(bytes),
-            version: u16_in(bytes, 36), // Version
-            status: u8_in(bytes, 38), // Status
-            image_type: u8_in(bytes, 39), // Image Type
-            image_address: field_in(bytes, 40, 8), // Image Address
-            x: u32_in(bytes, 48), // Image Offset X
-            y: u32_in(bytes, 52), // Image Offset Y
-        }
+        bgrt_at(bytes)
     }
 }
 
 impl SdtTable for Bgrt {
-    ghost use Rattle.acpi_base.specs.declared.table.signature.TheConstants.Signature.{BGRT};
+    ghost use Rattle.acpi_bytes.specs.declared.signature.TheConstants.Signature.{BGRT};
 
     const NAME: Signature = Signature::BGRT;
 

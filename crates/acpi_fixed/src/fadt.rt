@@ -220,7 +220,7 @@ impl Fadt {
 }
 
 impl SdtTable for Fadt {
-    ghost use Rattle.acpi_base.specs.declared.table.signature.TheConstants.Signature.{FADT};
+    ghost use Rattle.acpi_bytes.specs.declared.signature.TheConstants.Signature.{FADT};
 
     const NAME: Signature = Signature::FADT;
 

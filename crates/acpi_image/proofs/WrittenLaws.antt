@@ -146,12 +146,12 @@ written_is_read p file bytes e =
 
 moved_by : {A : Type 0} (n : Memory) (r : Result (List ℕ) AcpiError) (pointers_in : List ℕ
     → List ℕ) (ts : List (List ℕ))
-    (defined : Memory → List ℕ → Result A AcpiError) (said : Result A AcpiError)
-    → ((qs : List ℕ) → valid_tables n qs ≡ ts → defined n qs ≡ said)
+    (defined : Memory → List ℕ → Result A AcpiError) (meaning : Result A AcpiError)
+    → ((qs : List ℕ) → valid_tables n qs ≡ ts → defined n qs ≡ meaning)
     → (r >>= λ root. lists (valid_tables n (pointers_in root))) ≡ Ok ts
-    → (r >>= λ root. defined n (pointers_in root)) ≡ said
-moved_by n (Ok root) pointers_in ts defined said each e = each (pointers_in root) (same_ok _ _ e)
-moved_by n (Err d) pointers_in ts defined said each e = absurd cc
+    → (r >>= λ root. defined n (pointers_in root)) ≡ meaning
+moved_by n (Ok root) pointers_in ts defined meaning each e = each (pointers_in root) (same_ok _ _ e)
+moved_by n (Err d) pointers_in ts defined meaning each e = absurd cc
 
 -- what follows the valid tables says the same of the image
 pub says_of_tables : {A : Type 0} (defined : Memory → List ℕ → Result A AcpiError) → FollowsTables defined
@@ -161,11 +161,11 @@ says_of_tables defined follows p file bytes e n kind address same =
     let memory = places_are (records_of p) known.ok.places
     (subst (λ (b : List ℕ). IsBytes b) (sym known.image) bytes) in
     let tables = valid_are p known.ok memory in
-    let said : said_of p defined ≡ defined (records_of p) (pointers_of p) =
+    let meaning : said_of p defined ≡ defined (records_of p) (pointers_of p) =
     rw (root_is p known.ok memory, pointers_there p known.ok memory) refl in
     moved_by n (root_at n kind address) (λ root. pointers (width_of kind) (drop 36 root)) (tables_of p) defined
     (said_of p defined)
-    (λ qs f. follows (records_of p) n (pointers_of p) qs (f ∙ sym tables) ∙ sym said) same
+    (λ qs f. follows (records_of p) n (pointers_of p) qs (f ∙ sym tables) ∙ sym meaning) same
 
 pub headers_say : SaysOfTables (λ m ps. Ok (valid_headers m ps))
 headers_say = says_of_tables (λ m ps. Ok (valid_headers m ps)) (in_ok_follows valid_headers headers_follow)
@@ -184,5 +184,5 @@ regions_say = says_of_tables found_regions regions_follow
 pub answer_is_written : {V : Type 0} (items : V → List ℕ) (r : Result V WriteError) (p : Plan)
     → IfOk r (λ v. IsBytes (items v)) → WritesOrRunsOut items r (written p)
     → IfOk r (λ v. IsWritten p (items v))
-answer_is_written items (Ok v) p bytes said = written_is_read p (items v) bytes said
-answer_is_written items (Err e) p bytes said = tt
+answer_is_written items (Ok v) p bytes meaning = written_is_read p (items v) bytes meaning
+answer_is_written items (Err e) p bytes meaning = tt

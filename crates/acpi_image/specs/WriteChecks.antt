@@ -55,6 +55,6 @@ written p = do
 -- what a call returned, seen by view, is what is defined, or OutOfMemory, and that only if no check fails
 abbrev pub WritesOrRunsOut : {X : Type 0}
     → (X → List ℕ) → Result X WriteError → Result (List ℕ) WriteError → Type 0
-WritesOrRunsOut view (Ok file) said = said ≡ Ok (view file)
-WritesOrRunsOut view (Err refusal.OutOfMemory) said = IsOk said
-WritesOrRunsOut view (Err e) said = said ≡ Err e
+WritesOrRunsOut view (Ok file) expected = expected ≡ Ok (view file)
+WritesOrRunsOut view (Err refusal.OutOfMemory) expected = IsOk expected
+WritesOrRunsOut view (Err e) expected = expected ≡ Err e

@@ -34,7 +34,7 @@ fn qword(number: u64) -> [u8; 8]
 }
 
 /// An RSDP whose checksums are 0 (section 5.2.5.3).
-#[tactic(auto, unfolding(crate::specs::Written::rsdp_unsummed, acpi_base::specs::Bytes::spelling))]
+#[tactic(auto, unfolding(crate::specs::Written::rsdp_unsummed, acpi_bytes::specs::Bytes::spelling))]
 fn rsdp_unsummed(oem_id: [u8; 6], revision: u8, rsdt: u64, count: u64, xsdt: u64) -> [u8; 36]
     ensures { result ≡ rsdp_unsummed oem_id revision rsdt count xsdt }
 {

@@ -19,16 +19,18 @@ records_step n kept (b ∷ bs) some = refl
 
 -- an answer that hands a refusal on
 pub handed_on : {X : Type 0} (file : List ℕ) (view : X → Memory) (r : Result X ImageError) (x : ImageError)
-    (said : Result Memory ImageError) → IsErrAnd r (λ e. e ≡ x) → Refuses file x said → GivesOrRunsOut file view r said
-handed_on file view (Ok y) x said h k = absurd h
-handed_on file view (Err e) x said h k = rw h k
+    (expected : Result Memory ImageError) → IsErrAnd r (λ e. e ≡ x) → Refuses file x expected
+    → GivesOrRunsOut file view r expected
+handed_on file view (Ok y) x expected h k = absurd h
+handed_on file view (Err e) x expected h k = rw h k
 
-refuses : (file : List ℕ) (x : ImageError) (said : Result Memory ImageError) → x ≢ refusal.OutOfMemory → said ≡ Err x
-    → Refuses file x said
-refuses file refusal.Truncated said other e = e
-refuses file refusal.EndTooLarge said other e = e
-refuses file refusal.Overlap said other e = e
-refuses file refusal.OutOfMemory said other e = absurd (other refl)
+refuses : (file : List ℕ) (x : ImageError) (expected : Result Memory ImageError) → x ≢ refusal.OutOfMemory → expected
+    ≡ Err x
+    → Refuses file x expected
+refuses file refusal.Truncated expected other e = e
+refuses file refusal.EndTooLarge expected other e = e
+refuses file refusal.Overlap expected other e = e
+refuses file refusal.OutOfMemory expected other e = absurd (other refl)
 
 -- ---- one record
 
@@ -231,7 +233,7 @@ Answer = Result MemoryImage ImageError
 
 -- it is what the definition says, unless memory ran out
 abbrev Answers : List ℕ → Answer → Result Memory ImageError → Type 0
-Answers file answer said = GivesOrRunsOut file (λ i. memory_of i) answer said
+Answers file answer expected = GivesOrRunsOut file (λ i. memory_of i) answer expected
 
 -- an image that was found is the file's
 pub image_found : (file : List ℕ) (answer : Answer) → IsBytes file → Answers file answer (records_in file)

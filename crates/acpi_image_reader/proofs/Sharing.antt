@@ -3,7 +3,7 @@ use Rattle.std.proofs.Common.{◌≡◌, ℕ, ◌<◌, ◌≤◌, Bool, true, fa
 use Rattle.acpi_base.proofs.FromStd.{and_from, or_parts, or_from, false_from_ne_true, le-leb, lt-ltb, nat_tests, length-replicate}
 use Rattle.acpi_base.specs.FromStd.{AllByRecursion}
 use Rattle.acpi_base.specs.Words.{Memory, Region, AreApart, IsMemory, IsRegion, end_of, lies_in}
-use Rattle.acpi_base.specs.declared.range.AddressRange.{AddressRange}
+use Rattle.acpi_bytes.specs.declared.range.AddressRange.{AddressRange}
 use Rattle.acpi_image_reader.specs.Words.{share, shares_any, region_in}
 
 pub inside : (r : Region) (a : ℕ) → lies_in r a ≡ true → (r.start ≤ a) × (a < end_of r)

@@ -64,13 +64,13 @@ pub record RunsOut (file : List ℕ) : Type 0 where
 
 -- an error is the one that is defined; OutOfMemory comes only if memory can run out
 abbrev pub Refuses : {Y : Type 0} → List ℕ → ImageError → Result Y ImageError → Type 0
-Refuses file refusal.OutOfMemory said = RunsOut file
-Refuses file refusal.Truncated said = said ≡ Err refusal.Truncated
-Refuses file refusal.EndTooLarge said = said ≡ Err refusal.EndTooLarge
-Refuses file refusal.Overlap said = said ≡ Err refusal.Overlap
+Refuses file refusal.OutOfMemory expected = RunsOut file
+Refuses file refusal.Truncated expected = expected ≡ Err refusal.Truncated
+Refuses file refusal.EndTooLarge expected = expected ≡ Err refusal.EndTooLarge
+Refuses file refusal.Overlap expected = expected ≡ Err refusal.Overlap
 
 -- what a call returned for a file, seen by view, is the definition's, or OutOfMemory if memory can run out
 abbrev pub GivesOrRunsOut : {X Y : Type 0}
     → List ℕ → (X → Y) → Result X ImageError → Result Y ImageError → Type 0
-GivesOrRunsOut file view (Ok x) said = said ≡ Ok (view x)
-GivesOrRunsOut file view (Err e) said = Refuses file e said
+GivesOrRunsOut file view (Ok x) expected = expected ≡ Ok (view x)
+GivesOrRunsOut file view (Err e) expected = Refuses file e expected

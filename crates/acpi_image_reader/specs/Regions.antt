@@ -1,7 +1,7 @@
 -- The regions of records.
 use Rattle.std.specs.Prelude.{List, map, replicate}
 use Rattle.acpi_base.specs.Words.{Region, Memory}
-use Rattle.acpi_base.specs.declared.range.AddressRange.{AddressRange}
+use Rattle.acpi_bytes.specs.declared.range.AddressRange.{AddressRange}
 use Rattle.acpi_image_reader.specs.declared.record.Record.{Record}
 
 abbrev pub region_of : Record → Region

@@ -64,7 +64,7 @@ impl<'a> MemoryImage<'a> {
 impl AcpiHandler for MemoryImage<'_> {
     ghost use Rattle.std.specs.Prelude.{◌≡◌, ◌<◌, ◌≤◌, length, Some, None, IfOk, IfErr};
     ghost use Rattle.acpi_base.specs.Words.{at, rest_from};
-    ghost use Rattle.acpi_base.specs.declared.error.AcpiError.TheVariants.{MapFailed};
+    ghost use Rattle.acpi_bytes.specs.declared.error.AcpiError.TheVariants.{MapFailed};
     ghost use Rattle.acpi_image_reader.specs.Held.{memory_of};
 
     ghost memory = { λ i. memory_of i };

@@ -1,15 +1,15 @@
 -- Pieces say their own lengths, and bytes are cut into them in one way; hops are cut into a path and others after it.
 use Rattle.std.proofs.Common.{◌≡◌, ℕ, ◌-◌, ◌≤◌, Bool, true, cond, List, [], ◌∷◌, ◌++◌, length, take, drop, Option, Some, None, refl, sym, ap, ◌∙◌, subst, arith, length-append, length-drop, leb, ◌+◌, ◌&&◌, filter, is_some, slice_get}
 use Rattle.std.proofs.lemmas.Option.{option_and_then_some}
-use Rattle.acpi_base.proofs.Cuts.{Fronts, Within, all_front, bounded_cut, is_cut_by, is_only, stuck}
+use Rattle.acpi_bytes.proofs.Cuts.{Fronts, Within, all_front, bounded_cut, is_cut_by, is_only, stuck}
 use Rattle.acpi_base.proofs.FromStd.{cond_some, and_parts, and_from, eqb-true, leb-true, le-leb, nat_tests, take_all, drop-take, take-take, length-take-le, append-nil, take-append-le, drop-append-le}
 use Rattle.acpi_base.specs.FromStd.{concat, list_all, list_any, prefix_len}
 use Rattle.acpi_base.specs.Words.{with_entry, field_of}
-use Rattle.acpi_iommu.specs.Words.{FrontIsFront, is_front, is_same_hop, scope_size, IsCut, IsPiece, OneCut, SaysItself, front, pieces, said, Hop, kind_of, structure_size, block_kind, block_size, entry_kind, entry_size, own_size}
+use Rattle.acpi_iommu.specs.Words.{FrontIsFront, is_front, is_same_hop, scope_size, IsCut, IsPiece, OneCut, SaysItself, front, pieces, valid_length, Hop, kind_of, structure_size, block_kind, block_size, entry_kind, entry_size, own_size}
 use Rattle.acpi_iommu.specs.Dmar as dmar
 use Rattle.acpi_iommu.specs.Ivrs as ivrs
 
--- ---- the piece with which bytes begin
+-- ---- the piece at the front of bytes
 
 pub front_within : (size : List ℕ → Option ℕ) (bytes : List ℕ) (n : ℕ) → front size bytes ≡ Some n
     → (size bytes ≡ Some n) × (1 ≤ n) × (n ≤ length bytes)
@@ -51,7 +51,7 @@ begins size says p more e =
     sym (ap (λ b. size (b ++ more)) (take_all (length p) p (omega arith))) ∙ says p more (length p) is.0 is.2 in
     front_from size (p ++ more) (length p) again is.1 (omega (arith, length-append p more))
 
--- the one with which bytes begin
+-- the one at the front of bytes
 front_is : (size : List ℕ → Option ℕ) → SaysItself size → (bytes : List ℕ) (n : ℕ) → front size bytes ≡ Some n
     → IsPiece size (take n bytes)
 front_is size says bytes n e =
@@ -114,11 +114,11 @@ kept bytes more n at width within inside =
 said_size : (least size : List ℕ → ℕ) (header : ℕ) → ((bytes : List ℕ) → header ≤ least bytes)
     → ((bytes more : List ℕ) (n : ℕ) → n ≤ length bytes → header ≤ n
     → (least (take n bytes ++ more) ≡ least bytes) × (size (take n bytes ++ more) ≡ size bytes))
-    → SaysItself (λ b. said (least b) (size b))
+    → SaysItself (λ b. valid_length (least b) (size b))
 said_size least size header has same bytes more n e within =
     let is = cond_some (leb (least bytes) (size bytes)) (size bytes) n e in
     let again = same bytes more n within (omega (arith, has bytes, leb-true (least bytes) (size bytes) is.0, is.1)) in
-    ap (λ l. said l (size (take n bytes ++ more))) again.0 ∙ ap (λ s. said (least bytes) s) again.1 ∙ e
+    ap (λ l. valid_length l (size (take n bytes ++ more))) again.0 ∙ ap (λ s. valid_length (least bytes) s) again.1 ∙ e
 
 pub structure_is : SaysItself structure_size
 structure_is =

@@ -11,10 +11,10 @@ use Rattle.acpi_base.specs.Words.{◌>>=◌, holds}
 
 -- ---- the first that says something
 
-later : {X Y : Type 0} (said : X → Option Y) (x : X) (xs : List X) (o : Option Y) → said x ≡ None
-    → FirstSays said xs o → FirstSays said (x ∷ xs) o
-later said x xs None none first = (none, first)
-later said x xs (Some y) none first = record {
+later : {X Y : Type 0} (meaning : X → Option Y) (x : X) (xs : List X) (o : Option Y) → meaning x ≡ None
+    → FirstSays meaning xs o → FirstSays meaning (x ∷ xs) o
+later meaning x xs None none first = (none, first)
+later meaning x xs (Some y) none first = record {
   before = x ∷ first.before;
   x = first.x;
   after = first.after;
@@ -23,10 +23,11 @@ later said x xs (Some y) none first = record {
   says = first.says;
 }
 
-first_by : {X Y : Type 0} (said : X → Option Y) (x : X) (xs : List X) (o : Option Y) (others : List Y) → said x ≡ o
-    → FirstSays said xs (slice_get others 0) → FirstSays said (x ∷ xs) (slice_get (cons_option o others) 0)
-first_by said x xs None others e first = later said x xs _ e first
-first_by said x xs (Some y) others e first = record {
+first_by : {X Y : Type 0} (meaning : X → Option Y) (x : X) (xs : List X) (o : Option Y) (others : List Y) → meaning x
+    ≡ o
+    → FirstSays meaning xs (slice_get others 0) → FirstSays meaning (x ∷ xs) (slice_get (cons_option o others) 0)
+first_by meaning x xs None others e first = later meaning x xs _ e first
+first_by meaning x xs (Some y) others e first = record {
   before = [];
   x = x;
   after = xs;
@@ -35,9 +36,10 @@ first_by said x xs (Some y) others e first = record {
   says = e;
 }
 
-first_says : {X Y : Type 0} (said : X → Option Y) (xs : List X) → FirstSays said xs (slice_get (filter_map said xs) 0)
-first_says said [] = tt
-first_says said (x ∷ xs) = first_by said x xs (said x) (filter_map said xs) refl (first_says said xs)
+first_says : {X Y : Type 0} (meaning : X → Option Y) (xs : List X)
+    → FirstSays meaning xs (slice_get (filter_map meaning xs) 0)
+first_says meaning [] = tt
+first_says meaning (x ∷ xs) = first_by meaning x xs (meaning x) (filter_map meaning xs) refl (first_says meaning xs)
 
 first_found : {X Y : Type 0} (test : X → Bool) (show : X → Y) (xs : List X)
     → FirstSays (λ z. cond (test z) (Some (show z)) None) xs (option_map show (find test xs))
@@ -82,9 +84,10 @@ unit_is_first table segment bus hops answer e =
       either drhd_at (find named es) (find rest es) answer Others (first_found rest drhd_at es) is,
     )
 
-first_answer : {X Y : Type 0} (said : X → Option Y) (xs : List X) (b : Bool) (y : Option Y)
-    → (holds b InvalidStructureLength >>= λ u. done (slice_get (filter_map said xs) 0)) ≡ Ok y → FirstSays said xs y
-first_answer said xs b y e = subst (λ o. FirstSays said xs o) (answer_is b _ y e) (first_says said xs)
+first_answer : {X Y : Type 0} (meaning : X → Option Y) (xs : List X) (b : Bool) (y : Option Y)
+    → (holds b InvalidStructureLength >>= λ u. done (slice_get (filter_map meaning xs) 0)) ≡ Ok y
+    → FirstSays meaning xs y
+first_answer meaning xs b y e = subst (λ o. FirstSays meaning xs o) (answer_is b _ y e) (first_says meaning xs)
 
 pub source_is_first : SourceIsFirst
 source_is_first kind table id answer e =

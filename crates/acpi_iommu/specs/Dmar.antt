@@ -2,7 +2,7 @@
 -- the structures that it is made of.
 use Rattle.std.specs.Prelude.{ℕ, ◌+◌, ◌-◌, ◌*◌, ◌^◌, ◌==◌, ◌&&◌, ◌||◌, Bool, nat_lt, nat_le, List, [], drop, Option, None, Some, if◌then◌else◌}
 use Rattle.acpi_base.specs.Words.{bits_of, has_bit, field_of, header_at}
-use Rattle.acpi_iommu.specs.Pieces.{left, pieces, rest_after, said}
+use Rattle.acpi_iommu.specs.Pieces.{left, pieces, rest_after, valid_length}
 use Rattle.acpi_iommu.specs.Texts.{up_to_zero}
 use Rattle.acpi_iommu.specs.declared.dmar.Dmar.{Dmar}
 use Rattle.acpi_iommu.specs.declared.dmar.structure.DmarStructure.{DmarStructure}
@@ -41,9 +41,9 @@ least_of kind =
     else if nat_le kind 6 then 8
     else 4
 
--- Length of the structure with which bytes begin, at 2
+-- Length, at 2, of the structure at the front of bytes
 abbrev pub structure_size : List ℕ → Option ℕ
-structure_size e = said (least_of (kind_of e)) (field_of e 2 2)
+structure_size e = valid_length (least_of (kind_of e)) (field_of e 2 2)
 
 -- the structures of a table (Remapping Structures[], from 48 on), and the rest in which none begins
 abbrev pub cut_of : List ℕ → List (List ℕ) × List ℕ
@@ -90,25 +90,38 @@ abbrev pub length_of : Rmrr → Option ℕ
 length_of r =
     if is_range r && nat_lt (r.limit - r.base + 1) (2 ^ 64) then Some (r.limit - r.base + 1) else None
 
--- Root Port ATS Capability Reporting (section 8.5): Flags at 4
+-- Root Port ATS Capability Reporting (section 8.5)
 abbrev pub atsr_at : List ℕ → Atsr
-atsr_at e = record { flags = field_of e 4 1; segment = segment_of e }
+atsr_at e = record {
+  flags = field_of e 4 1;  -- Flags
+  segment = segment_of e;  -- Segment Number
+}
 
--- Remapping Hardware Static Affinity (section 8.6): Register Base Address at 8, Proximity Domain at 16
+-- Remapping Hardware Static Affinity (section 8.6)
 abbrev pub rhsa_at : List ℕ → Rhsa
-rhsa_at e = record { register_base = field_of e 8 8; domain = field_of e 16 4 }
+rhsa_at e = record {
+  register_base = field_of e 8 8;  -- Register Base Address
+  domain = field_of e 16 4;  -- Proximity Domain
+}
 
--- ACPI Name-space Device Declaration (section 8.7): ACPI Device Number
+-- ACPI Name-space Device Declaration (section 8.7)
 abbrev pub andd_at : List ℕ → Andd
-andd_at e = record { device_number = field_of e 7 1 }
+andd_at e = record {
+  device_number = field_of e 7 1;  -- ACPI Device Number
+}
 
--- SoC Integrated Address Translation Cache (section 8.8): Flags at 4
+-- SoC Integrated Address Translation Cache (section 8.8)
 abbrev pub satc_at : List ℕ → Satc
-satc_at e = record { flags = field_of e 4 1; segment = segment_of e }
+satc_at e = record {
+  flags = field_of e 4 1;  -- Flags
+  segment = segment_of e;  -- Segment Number
+}
 
 -- SoC Integrated Device Property (section 8.9)
 abbrev pub sidp_at : List ℕ → Sidp
-sidp_at e = record { segment = segment_of e }
+sidp_at e = record {
+  segment = segment_of e;  -- Segment Number
+}
 
 -- what a structure's fixed bytes contain, by its type; nothing of a type that isn't defined
 abbrev pub fields_of : List ℕ → Option DmarFields

@@ -3,7 +3,7 @@ use Rattle.std.specs.Prelude.{◌≡◌, ◌↔◌, ℕ, ◌==◌, ◌++◌, ◌
 use Rattle.acpi_base.specs.FromStd.{last_or, list_any}
 use Rattle.acpi_base.specs.Words.{field_of}
 use Rattle.acpi_iommu.specs.Dmar.{scope_bytes}
-use Rattle.acpi_iommu.specs.Pieces.{left, pieces, rest_after, said}
+use Rattle.acpi_iommu.specs.Pieces.{left, pieces, rest_after, valid_length}
 use Rattle.acpi_iommu.specs.declared.dmar.scope.DeviceScope.{DeviceScope}
 use Rattle.acpi_iommu.specs.declared.dmar.scope.Hop.{Hop}
 use Rattle.acpi_iommu.specs.declared.dmar.scope.HopIter.{HopIter}
@@ -12,9 +12,9 @@ use Rattle.acpi_iommu.specs.declared.pieces.PieceIter.{PieceIter}
 
 -- ---- scopes
 
--- Length of the scope with which bytes begin, at 1; each has 6 bytes at least
+-- Length, at 1, of the scope at the front of bytes; each has at least 6 bytes
 abbrev pub scope_size : List ℕ → Option ℕ
-scope_size s = said 6 (field_of s 1 1)
+scope_size s = valid_length 6 (field_of s 1 1)
 
 -- the scopes of a structure
 abbrev pub scopes_of : List ℕ → List (List ℕ)

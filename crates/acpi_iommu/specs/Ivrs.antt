@@ -2,7 +2,7 @@
 -- section 5.2), and the blocks that it is made of.
 use Rattle.std.specs.Prelude.{ℕ, ◌==◌, ◌||◌, Bool, List, drop, Option, None, Some, if◌then◌else◌, []}
 use Rattle.acpi_base.specs.Words.{field_of, header_at}
-use Rattle.acpi_iommu.specs.Pieces.{left, pieces, rest_after, said}
+use Rattle.acpi_iommu.specs.Pieces.{left, pieces, rest_after, valid_length}
 use Rattle.acpi_iommu.specs.declared.ivrs.Ivrs.{Ivrs}
 use Rattle.acpi_iommu.specs.declared.ivrs.block.Ivhd.{Ivhd}
 use Rattle.acpi_iommu.specs.declared.ivrs.block.Ivmd.{Ivmd}
@@ -14,7 +14,10 @@ use Rattle.acpi_iommu.specs.declared.pieces.PieceIter.{PieceIter}
 
 -- what a table's first bytes mean
 unfoldable pub ivrs_at : List ℕ → Ivrs
-ivrs_at b = record { header = header_at b; info = field_of b 36 4 }  -- IVinfo
+ivrs_at b = record {
+  header = header_at b;
+  info = field_of b 36 4;  -- IVinfo
+}
 
 -- ---- blocks
 
@@ -38,9 +41,9 @@ least_of kind =
     else if is_ivmd kind then 32
     else 4
 
--- Length of the block with which bytes begin, at 2
+-- Length, at 2, of the block at the front of bytes
 abbrev pub block_size : List ℕ → Option ℕ
-block_size b = said (least_of (block_kind b)) (field_of b 2 2)
+block_size b = valid_length (least_of (block_kind b)) (field_of b 2 2)
 
 -- the blocks of a table, from 48 on, and the rest in which none begins
 abbrev pub blocks_cut : List ℕ → List (List ℕ) × List ℕ
@@ -49,7 +52,11 @@ blocks_cut table = pieces block_size (drop 48 table)
 abbrev pub blocks_of : List ℕ → List (List ℕ)
 blocks_of table = (blocks_cut table).0
 
--- an IVHD; type 0x10 has no image of the extended features
+-- EFR Register Image, that of the extended features; type 0x10 has none
+abbrev pub extended_features_of : List ℕ → Option ℕ
+extended_features_of b = if block_kind b == 0x10 then None else Some (field_of b 24 8)
+
+-- an IVHD
 abbrev pub ivhd_at : List ℕ → Ivhd
 ivhd_at b = record {
   kind = block_kind b;  -- Type
@@ -60,7 +67,7 @@ ivhd_at b = record {
   segment = field_of b 16 2;  -- PCI Segment Group
   info = field_of b 18 2;  -- IOMMU Info
   features = field_of b 20 4;  -- IOMMU Feature Reporting, of types 0x11 and 0x40 IOMMU Attributes
-  extended_features = if block_kind b == 0x10 then None else Some (field_of b 24 8);  -- EFR Register Image
+  extended_features = extended_features_of b;  -- EFR Register Image
 }
 
 -- an IVMD

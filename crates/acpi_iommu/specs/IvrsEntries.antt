@@ -28,7 +28,7 @@ own_size e =
 abbrev pub is_start : List ℕ → Bool
 is_start e = (entry_kind e == 3) || (entry_kind e == 0x43) || (entry_kind e == 0x47)
 
--- how many bytes the entry has with which bytes begin: with a start its end belongs to it, and no end is by itself
+-- the length of the entry at the front of bytes: with a start its end belongs to it, and no end is by itself
 abbrev pub entry_size : List ℕ → Option ℕ
 entry_size e =
     if is_start e then (if field_of e (own_size e) 1 == 4 then Some (own_size e + 4) else None)

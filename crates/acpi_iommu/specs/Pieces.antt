@@ -9,11 +9,10 @@ use Rattle.acpi_iommu.specs.declared.pieces.PieceIter.{PieceIter}
 -- ---- one piece
 
 -- the length that is in a piece, if it is the least at least
-abbrev pub said : ℕ → ℕ → Option ℕ
-said least size = if nat_le least size then Some size else None
+abbrev pub valid_length : ℕ → ℕ → Option ℕ
+valid_length least size = if nat_le least size then Some size else None
 
--- how many bytes the piece has with which bytes begin, if one begins there: as many as its length, which is one at
--- least, and no more than there are
+-- the length of the piece at the front of bytes, if a piece begins there: at least 1, and no more than there are bytes
 abbrev pub front : (List ℕ → Option ℕ) → List ℕ → Option ℕ
 front size bytes =
     option_and_then (λ n. if nat_le 1 n && nat_le n (length bytes) then Some n else None) (size bytes)

@@ -11,18 +11,18 @@ use Rattle.acpi_iommu.specs.declared.dmar.scope.Hop.{Hop}
 use Rattle.acpi_iommu.specs.declared.ivrs.block.Ivmd.{Ivmd}
 
 -- one of these has y, and none before it has anything
-pub record Says {X Y : Type 0} (said : X → Option Y) (xs : List X) (y : Y) : Type 0 where
+pub record Says {X Y : Type 0} (meaning : X → Option Y) (xs : List X) (y : Y) : Type 0 where
   pub before : List X
   pub x : X
   pub after : List X
   pub listed : xs ≡ before ++ x ∷ after
-  pub none_before : AllByRecursion (λ b. said b ≡ None) before
-  pub says : said x ≡ Some y
+  pub none_before : AllByRecursion (λ b. meaning b ≡ None) before
+  pub says : meaning x ≡ Some y
 
 -- what is in the first of these that has something, or that none has
 abbrev pub FirstSays : {X Y : Type 0} → (X → Option Y) → List X → Option Y → Type 0
-FirstSays said xs None = AllByRecursion (λ x. said x ≡ None) xs
-FirstSays said xs (Some y) = Says said xs y
+FirstSays meaning xs None = AllByRecursion (λ x. meaning x ≡ None) xs
+FirstSays meaning xs (Some y) = Says meaning xs y
 
 -- a unit of the segment one of whose scopes names the device, and one with INCLUDE_PCI_ALL
 abbrev pub naming : ℕ → ℕ → List Hop → List ℕ → Option Drhd

@@ -1,7 +1,5 @@
 -- Made by scripts/words: what proofs, contracts and the crates above bring in from this crate's specs.
 pub use Rattle.acpi_iommu.specs.Dmar.{
-  andd_at,
-  atsr_at,
   cut_of,
   drhd_at,
   fields_of,
@@ -13,12 +11,9 @@ pub use Rattle.acpi_iommu.specs.Dmar.{
   name_of,
   register_bytes,
   rest_left,
-  rhsa_at,
   rmrr_at,
-  satc_at,
   scope_bytes,
   segment_of,
-  sidp_at,
   structure_bytes,
   structure_size,
   structures_left,
@@ -95,7 +90,6 @@ pub use Rattle.acpi_iommu.specs.IvrsEntries.{
   extended_of,
   first_id,
   hardware_id,
-  is_select,
   is_start,
   last_id,
   own_size,
@@ -134,7 +128,7 @@ pub use Rattle.acpi_iommu.specs.Pieces.{
   has_ended,
   left,
   rest_after,
-  said,
+  valid_length,
 }
 unfoldable pub use Rattle.acpi_iommu.specs.Pieces.{pieces}
 pub use Rattle.acpi_iommu.specs.Texts.{up_to_zero}

@@ -2,15 +2,17 @@
 //! memory is reserved for a device.
 
 mod fields;
+mod readings;
 mod reserved;
 mod scope;
 mod structure;
 mod units;
 
-use acpi_base::bytes::{field_in, has_bit};
+use acpi_base::bytes::has_bit;
 use acpi_base::sdt::SdtHeader;
 use acpi_base::{PhysicalRecord, SdtTable, Signature};
 pub use fields::{Andd, Atsr, DmarFields, Drhd, Rhsa, Rmrr, Satc, Sidp};
+use readings::dmar_at;
 pub use reserved::ReservedIter;
 pub use scope::{DeviceScope, DeviceScopeIter, Hop, HopIter};
 pub use structure::{DmarStructure, DmarStructureIter};
@@ -37,19 +39,14 @@ impl PhysicalRecord for Dmar {
 
     ghost reading = { dmar_at };
 
-    #[tactic(auto, unfolding(crate::specs::Dmar::dmar_at))]
     fn read(bytes: &[u8]) -> Self {
-        Dmar {
-            header: SdtHeader::read(bytes),
-            host_address_width: field_in(bytes, 36, 1) as u8, // Host Address Width
-            flags: field_in(bytes, 37, 1) as u8, // Flags
-        }
+        dmar_at(bytes)
     }
 }
 
 impl SdtTable for Dmar {
     ghost use Rattle.std.proofs.Common.{lit≤};
-    ghost use Rattle.acpi_base.specs.declared.table.signature.TheConstants.Signature.{DMAR};
+    ghost use Rattle.acpi_bytes.specs.declared.signature.TheConstants.Signature.{DMAR};
 
     const NAME: Signature = Signature::DMAR;
 

@@ -4,13 +4,14 @@
 mod block;
 mod blocks;
 mod entry;
+mod readings;
 
-use acpi_base::bytes::field_in;
 use acpi_base::sdt::SdtHeader;
 use acpi_base::{PhysicalRecord, SdtTable, Signature};
 pub use block::{Ivhd, Ivmd, IvrsBlock, IvrsBlockIter, IvrsFields};
 pub use blocks::{BestBlockIter, DeviceUnit, IvrsBlocks, MemoryIter};
 pub use entry::{DeviceEntry, DeviceEntryIter, SpecialDevice};
+use readings::ivrs_at;
 
 /// The I/O Virtualization Reporting Structure (IVRS, section 5.2). Its blocks are after 48 fixed bytes; `IvrsBlocks`
 /// reads them.
@@ -31,18 +32,14 @@ impl PhysicalRecord for Ivrs {
 
     ghost reading = { ivrs_at };
 
-    #[tactic(auto, unfolding(crate::specs::Ivrs::ivrs_at))]
     fn read(bytes: &[u8]) -> Self {
-        Ivrs {
-            header: SdtHeader::read(bytes),
-            info: field_in(bytes, 36, 4) as u32, // IVinfo
-        }
+        ivrs_at(bytes)
     }
 }
 
 impl SdtTable for Ivrs {
     ghost use Rattle.std.proofs.Common.{lit≤};
-    ghost use Rattle.acpi_base.specs.declared.table.signature.TheConstants.Signature.{IVRS};
+    ghost use Rattle.acpi_bytes.specs.declared.signature.TheConstants.Signature.{IVRS};
 
     const NAME: Signature = Signature::IVRS;
 

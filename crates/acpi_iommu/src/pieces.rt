@@ -4,7 +4,7 @@ ghost use Rattle.std.specs.Prelude.{◌≡◌, ◌&&◌, IfSome, IfNone, [], fal
 ghost use Rattle.acpi_base.specs.FromStd.{list_all};
 ghost use Rattle.acpi_iommu.specs.Words.{InvalidStructureLength};
 ghost use Rattle.acpi_base.specs.Words.{with_entry, is_left};
-ghost use Rattle.acpi_iommu.specs.Pieces.{bytes_left, front, has_ended, is_malformed, left, pieces, rest_after, said};
+ghost use Rattle.acpi_iommu.specs.Pieces.{bytes_left, front, has_ended, is_malformed, left, pieces, rest_after, valid_length};
 
 use crate::error::{IommuError, IommuResult};
 use std::marker::PhantomData;
@@ -16,16 +16,16 @@ pub trait PieceKind<'a> {
     /// A piece.
     type Piece: Drop;
 
-    // The length that the piece has with which bytes begin, by these.
+    // The length of the piece at the front of bytes, as these bytes have it.
     ghost size: { List ℕ → Option ℕ };
 
     // What a piece shows: its bytes.
     ghost shown: { Self.Piece → List ℕ };
 
     // Whether the pieces in a piece take all bytes that are theirs.
-    ghost whole: { List ℕ → Bool };
+    ghost filled: { List ℕ → Bool };
 
-    /// The length that the piece has with which bytes begin, by these, or `None` if that is less than it can be.
+    /// The length of the piece at the front of bytes, as these bytes have it, or `None` if it is too small.
     fn size_at(bytes: &[u8]) -> Option<usize>
         ensures { result ≡ size bytes.now };
 
@@ -35,17 +35,17 @@ pub trait PieceKind<'a> {
 
     /// Whether the pieces in a piece take all bytes that are theirs.
     fn is_whole(piece: &Self::Piece) -> bool
-        ensures { result ≡ whole (shown piece.now) };
+        ensures { result ≡ filled (shown piece.now) };
 }
 
 /// The length that is in a piece, or `None` if it is less than the least.
-pub(crate) fn said(least: usize, size: usize) -> Option<usize>
-    ensures { result ≡ said least size }
+pub(crate) fn valid_length(least: usize, size: usize) -> Option<usize>
+    ensures { result ≡ valid_length least size }
 {
     if least <= size { Some(size) } else { None }
 }
 
-/// How many bytes the piece has with which bytes begin, or `None` if none begins.
+/// The length of the piece at the front of bytes, or `None` if no piece begins there.
 fn front<'a, K: PieceKind<'a>>(bytes: &[u8]) -> Option<usize>
     ensures { result ≡ front K.size bytes.now }
 {
@@ -55,7 +55,7 @@ fn front<'a, K: PieceKind<'a>>(bytes: &[u8]) -> Option<usize>
     }
 }
 
-/// The bytes of the piece with which bytes begin, and those after it, or `None` if none begins.
+/// The bytes of the piece at the front of bytes, and those after it, or `None` if no piece begins there.
 #[tactic(auto, using(crate::proofs::Cuts::front_within, crate::proofs::Cuts::pieces_front, crate::proofs::Cuts::pieces_stuck))]
 fn split<'a, K: PieceKind<'a>>(bytes: &'a [u8]) -> Option<(&'a [u8], &'a [u8])>
     ensures found { IfSome result (λ x. pieces K.size bytes.now ≡ with_entry x.0.now (pieces K.size x.1.now)) }
@@ -119,7 +119,7 @@ impl<'a, K: PieceKind<'a>> PieceIter<'a, K> {
     /// Whether the pieces that are left take all bytes, and the pieces in each all that are theirs.
     pub(crate) fn is_whole(mut self) -> bool
         ensures { result ≡ (not (is_left (rest_after K.size self.entry))
-            && list_all K.whole (left K.size self.entry)) }
+            && list_all K.filled (left K.size self.entry)) }
     {
         let mut all_whole = true;
         while let Some(piece) = self.next() {

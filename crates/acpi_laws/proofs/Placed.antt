@@ -7,7 +7,7 @@ use Rattle.acpi.specs.Types.{AcpiError, SdtInvalidLength, Signature, DSDT, SSDT,
 use Rattle.acpi_base.specs.Words.{check_names, check_table, header_at, Memory, Ranges, own_table_ranges, table_ranges, unless_found, whole_ranges, ◌>>=◌, holds, lent, Kind, own_accepted, own_table_at, plain_kind, table_at}
 use Rattle.acpi_base.specs.Ranges as ranges
 use Rattle.acpi_fixed.specs.Words.{dsdt_address_of, fadt_at}
-use Rattle.acpi.specs.Words.{lookup_ranges, root_ranges, fadt_kind, own_header_at, or_later, lookup, found_at, tables_found, dsdt_place, led_by, place_at, places_of, range, madt_kind, root_kind, signature_of}
+use Rattle.acpi.specs.Words.{lookup_ranges, root_ranges, fadt_kind, own_header_at, or_later, lookup, found_at, tables_found, dsdt_place, by_first_fadt, place_at, places_of, range, madt_kind, root_kind, signature_of}
 use Rattle.acpi_laws.specs.PlaceLaws.{AreReserved, BeginsNoDsdt, BeginsRefused, FirstIsFound, FoundBySignature, HeadersOfMembers, LiesIn, LiesInOne, RootLiesInRange, TablesLieInRanges}
 
 -- ---- members
@@ -232,11 +232,12 @@ module _ (root : AddressRange) (m : Memory) (all : List ℕ) where
 
   -- ---- the DSDT
 
-  dsdt_led : (found : ℕ × List ℕ) (a : ℕ) (table : List ℕ) → lookup m fadt_kind all ≡ Ok found
+  dsdt_by_fadt : (found : ℕ × List ℕ) (a : ℕ) (table : List ℕ) → lookup m fadt_kind all ≡ Ok found
       → dsdt_address_of (fadt_at found.1) ≡ Ok a
-      → table_at m (plain_kind DSDT) a ≡ Ok table → result_ok (led_by dsdt_place m all) ≡ Some (range a (length table))
+      → table_at m (plain_kind DSDT) a ≡ Ok table → result_ok (by_first_fadt dsdt_place m all)
+      ≡ Some (range a (length table))
   unfolding dsdt_place
-  dsdt_led found a table there address valid = rw (there, address, valid) refl
+  dsdt_by_fadt found a table there address valid = rw (there, address, valid) refl
 
   dsdt_at : (found : ℕ × List ℕ) (a : ℕ) (r : Result (List ℕ) AcpiError) → lookup m fadt_kind all ≡ Ok found
       → dsdt_address_of (fadt_at found.1) ≡ Ok a
@@ -244,8 +245,8 @@ module _ (root : AddressRange) (m : Memory) (all : List ℕ) where
   dsdt_at found a (Ok table) there address is =
       all_map (Fits a (length table)) IsReserved
       (λ asked h. inl (inr (lies_back asked (filter_map (λ q. result_ok (place_at m q)) all) _
-      (lies_here asked (result_ok (led_by dsdt_place m all)) a (length table) _
-      (dsdt_led found a table there address is) h))))
+      (lies_here asked (result_ok (by_first_fadt dsdt_place m all)) a (length table) _
+      (dsdt_by_fadt found a table there address is) h))))
       (table_ranges m (plain_kind DSDT) a)
       (kind_fits m (plain_kind DSDT) a (length table) (λ head front. (plain_long m DSDT a head table front is).0)
       (plain_enough m DSDT a table is))

@@ -50,39 +50,40 @@ first_boots (_ ∷ items) = first_boots items
 -- ---- the platform
 
 abbrev platform_from : ℕ × List ℕ → Model (Unit {0}) → Option PmTimer → PlatformInfo (Unit {0})
-platform_from fadt said timer = record {
+platform_from fadt read_model timer = record {
   power_profile = profile_of (fadt_at fadt.1);
-  interrupt_model = said.0;
-  processor_info = said.1;
+  interrupt_model = read_model.0;
+  processor_info = read_model.1;
   pm_timer = timer;
 }
 
 module _ (m : Memory) (ps : List ℕ) where
   abbrev IsModel : Model (Unit {0}) → Type 0
-  IsModel said = ((madt : ℕ × List ℕ) × (lookup m madt_kind ps ≡ Ok madt) × (model_of madt.1 ≡ Ok (said.0, said.1)))
-      ⊎ ((e : AcpiError) × (lookup m madt_kind ps ≡ Err e) × (said.0 ≡ Unknown) × (said.1 ≡ None))
+  IsModel read_model = ((madt : ℕ × List ℕ) × (lookup m madt_kind ps ≡ Ok madt) × (model_of madt.1
+      ≡ Ok (read_model.0, read_model.1)))
+      ⊎ ((e : AcpiError) × (lookup m madt_kind ps ≡ Err e) × (read_model.0 ≡ Unknown) × (read_model.1 ≡ None))
 
-  model_by : (found : Result (ℕ × List ℕ) AcpiError) (said : Model (Unit {0})) → lookup m madt_kind ps ≡ found
-      → or_later (λ madt. model_of madt.1) found (Ok (Unknown, None)) ≡ Ok said → IsModel said
-  model_by (Ok madt) said h is = inl (madt, h, is)
-  model_by (Err e) said h is =
-      let same : (Unknown, None) ≡ said = cc in
+  model_by : (found : Result (ℕ × List ℕ) AcpiError) (read_model : Model (Unit {0})) → lookup m madt_kind ps ≡ found
+      → or_later (λ madt. model_of madt.1) found (Ok (Unknown, None)) ≡ Ok read_model → IsModel read_model
+  model_by (Ok madt) read_model h is = inl (madt, h, is)
+  model_by (Err e) read_model h is =
+      let same : (Unknown, None) ≡ read_model = cc in
       inr (e, h, rw (← same) refl, rw (← same) refl)
 
-  platform_by : (fadt : ℕ × List ℕ) (said : Result (Model (Unit {0})) AcpiError)
+  platform_by : (fadt : ℕ × List ℕ) (read_model : Result (Model (Unit {0})) AcpiError)
       (timer : Result (Option PmTimer) AcpiError) (platform : PlatformInfo (Unit {0})) → lookup m fadt_kind ps ≡ Ok fadt
-      → model_in m ps ≡ said → timer_of (fadt_at fadt.1) ≡ timer
-      → (said >>= (λ s. timer >>= (λ t. Ok (platform_from fadt s t)))) ≡ Ok platform → IsPlatform m ps platform
+      → model_in m ps ≡ read_model → timer_of (fadt_at fadt.1) ≡ timer
+      → (read_model >>= (λ s. timer >>= (λ t. Ok (platform_from fadt s t)))) ≡ Ok platform → IsPlatform m ps platform
   platform_by fadt (Err e) timer platform h s t is = absurd cc
-  platform_by fadt (Ok said) (Err e) platform h s t is = absurd cc
-  platform_by fadt (Ok said) (Ok timer) platform h s t is =
-      let same : platform_from fadt said timer ≡ platform = cc in
+  platform_by fadt (Ok read_model) (Err e) platform h s t is = absurd cc
+  platform_by fadt (Ok read_model) (Ok timer) platform h s t is =
+      let same : platform_from fadt read_model timer ≡ platform = cc in
       rw (← same) (record {
         fadt = fadt;
         found = h;
         profile = refl;
         timer = t;
-        model = model_by (lookup m madt_kind ps) said refl s;
+        model = model_by (lookup m madt_kind ps) read_model refl s;
       })
 
   found_by : (found : Result (ℕ × List ℕ) AcpiError) (platform : PlatformInfo (Unit {0}))

@@ -3,9 +3,9 @@
 use Rattle.std.proofs.Common.{Result, Ok, lit≤, ◌≡◌, ℕ, true, false, List, [], ◌∷◌, Option, Some, None, refl, ap, arith, ◌-◌, ◌≤◌, ◌++◌, length, length-drop, drop, length-append, find, option_map}
 use Rattle.acpi_base.specs.Words.{DependsOn, ◌>>=◌, IsEntry, cut}
 use Rattle.acpi.specs.Types.{AcpiError, SRAT}
-use Rattle.acpi.proofs.Agreed.{same_said}
+use Rattle.acpi.proofs.Agreed.{same_meaning}
 use Rattle.acpi.proofs.First.{filter_map_few}
-use Rattle.acpi.proofs.Moved.{said_follows}
+use Rattle.acpi.proofs.Moved.{meaning_follows}
 use Rattle.acpi.specs.Words.{lookup_ranges, FollowsTables}
 use Rattle.acpi_numa.specs.Words.{affinities_of, found_affinities, srat_kind, IsDomainOf, LiesIn, domain_at, lies_in, range_in, ranges_of, MemoryRange, entries_of, entry_of, revision_of, srat_grammar, srat_layout}
 use Rattle.acpi_base.proofs.FromStd.{nat_tests}
@@ -17,10 +17,10 @@ abbrev done : {A : Type 0} → A → Result A AcpiError
 done x = Ok x
 
 pub same_affinities : DependsOn (λ m. lookup_ranges m srat_kind) found_affinities
-same_affinities m n ps h = same_said srat_kind m n ps (λ r. r >>= λ f. done (affinities_of f.1)) h
+same_affinities m n ps h = same_meaning srat_kind m n ps (λ r. r >>= λ f. done (affinities_of f.1)) h
 
 pub affinities_follow : FollowsTables found_affinities
-affinities_follow = said_follows SRAT 48 (λ b. done (affinities_of b)) (lit≤ tt)
+affinities_follow = meaning_follows SRAT 48 (λ b. done (affinities_of b)) (lit≤ tt)
 
 -- ---- the domain of an address
 

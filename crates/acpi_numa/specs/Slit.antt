@@ -4,9 +4,12 @@ use Rattle.acpi_base.specs.Words.{field_of, header_at}
 use Rattle.acpi_numa.specs.declared.slit.Distances.{Distances}
 use Rattle.acpi_numa.specs.declared.slit.Slit.{Slit}
 
--- what a table's first bytes mean: after the header, Number of System Localities at 36
+-- what a table's first bytes mean
 unfoldable pub slit_at : List ℕ → Slit
-slit_at b = record { header = header_at b; localities = field_of b 36 8 }
+slit_at b = record {
+  header = header_at b;
+  localities = field_of b 36 8;  -- Number of System Localities
+}
 
 -- Number of System Localities: how many localities there are
 abbrev pub localities_of : List ℕ → ℕ

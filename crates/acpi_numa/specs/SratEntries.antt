@@ -50,10 +50,12 @@ gicc_affinity_at b = record {
   clock_domain = field_of b 14 4;  -- Clock Domain
 }
 
--- GIC Interrupt Translation Service (ITS) Affinity Structure (section 5.2.16.5): Proximity Domain at 2,
--- ITS ID at 8
+-- GIC Interrupt Translation Service (ITS) Affinity Structure (section 5.2.16.5)
 abbrev pub gic_its_affinity_at : List ℕ → GicItsAffinity
-gic_its_affinity_at b = record { domain = field_of b 2 4; its_id = field_of b 8 4 }
+gic_its_affinity_at b = record {
+  domain = field_of b 2 4;  -- Proximity Domain
+  its_id = field_of b 8 4;  -- ITS ID
+}
 
 -- Generic Initiator Affinity Structure (section 5.2.16.6), and Generic Port Affinity Structure (section 5.2.16.7),
 -- which has the same fields

@@ -35,7 +35,7 @@ impl From<AcpiError> for NumaError {
 
 impl From<AllocError> for NumaError {
     ghost use Rattle.std.specs.Prelude.{◌≡◌};
-    ghost use Rattle.acpi_base.specs.declared.error.AcpiError.TheVariants.{AllocError as NoMemory};
+    ghost use Rattle.acpi_bytes.specs.declared.error.AcpiError.TheVariants.{AllocError as NoMemory};
     ghost use Rattle.acpi_numa.specs.Words.{Acpi};
 
     ghost from_gives = { λ _ e. e ≡ Acpi NoMemory };

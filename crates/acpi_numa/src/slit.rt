@@ -2,9 +2,12 @@
 ghost use Rattle.std.specs.Prelude.{◌≡◌};
 ghost use Rattle.acpi_numa.specs.Words.{fits};
 
-use acpi_base::bytes::{field, field_in};
+mod readings;
+
+use acpi_base::bytes::field;
 use acpi_base::sdt::SdtHeader;
 use acpi_base::{PhysicalRecord, SdtTable, Signature};
+use readings::slit_at;
 
 /// The System Locality Information Table (SLIT, section 5.2.17). After these fields it has a byte for each
 /// pair of localities, which `Distances` reads.
@@ -26,12 +29,8 @@ impl PhysicalRecord for Slit {
 
     ghost reading = { slit_at };
 
-    #[tactic(auto, unfolding(crate::specs::Slit::slit_at))]
     fn read(bytes: &[u8]) -> Self {
-        Slit {
-            header: SdtHeader::read(bytes),
-            localities: field_in(bytes, 36, 8), // Number of System Localities
-        }
+        slit_at(bytes)
     }
 }
 

@@ -53,21 +53,22 @@ pub begun : (state : ℕ) (m : Memory) (ps : List ℕ) (answer : Answer) (left :
     → with_left state answer left ≡ tables_answer state m ps
 begun state m ps answer left low is all = rw (is, all, le-leb state 5 low) refl
 
-pub one_block : (state : ℕ) (answer block after said : Answer) (left rest : List (ℕ × List ℕ)) (found : ℕ × List ℕ)
-    → with_left state answer left ≡ said → left ≡ found ∷ rest → block ≡ block_answer SSDT state found.1
-    → after ≡ or_after answer block → with_left state after rest ≡ said
-one_block state answer block after said left rest found is first here after_is =
+pub one_block : (state : ℕ) (answer block after expected : Answer) (left rest : List (ℕ × List ℕ)) (found : ℕ × List ℕ)
+    → with_left state answer left ≡ expected → left ≡ found ∷ rest → block ≡ block_answer SSDT state found.1
+    → after ≡ or_after answer block → with_left state after rest ≡ expected
+one_block state answer block after expected left rest found is first here after_is =
     rw (after_is, here)
     (or_after_more answer (block_answer SSDT state found.1) (first_answer (ssdt_answers state rest)))
     ∙ ap (with_left state answer) (sym first) ∙ is
 
-pub types_found : (state : ℕ) (answer said : Answer) (left : List (ℕ × List ℕ)) (types : SleepTypes)
-    → with_left state answer left ≡ said → answer ≡ Ok (Types types) → answer ≡ said
-types_found state answer said left types is found = found ∙ (rw found at is)
+pub types_found : (state : ℕ) (answer expected : Answer) (left : List (ℕ × List ℕ)) (types : SleepTypes)
+    → with_left state answer left ≡ expected → answer ≡ Ok (Types types) → answer ≡ expected
+types_found state answer expected left types is found = found ∙ (rw found at is)
 
-pub none_left : (state : ℕ) (answer said : Answer) (left : List (ℕ × List ℕ)) → with_left state answer left ≡ said
-    → left ≡ [] → answer ≡ said
-none_left state answer said left is none = sym (or_after_none answer) ∙ (rw none at is)
+pub none_left : (state : ℕ) (answer expected : Answer) (left : List (ℕ × List ℕ)) → with_left state answer left
+    ≡ expected
+    → left ≡ [] → answer ≡ expected
+none_left state answer expected left is none = sym (or_after_none answer) ∙ (rw none at is)
 
 -- ---- the ranges
 

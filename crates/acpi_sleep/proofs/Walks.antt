@@ -4,7 +4,7 @@ use Rattle.std.proofs.lemmas.Bool.{eq-eqb, le-leb, lt-leb, ne_eqb}
 use Rattle.std.proofs.lemmas.List.{drop_more}
 use Rattle.std.specs.Prelude.{◌==◌, ◌||◌}
 use Rattle.acpi_base.specs.Words.{field_of, number}
-use Rattle.acpi_base.specs.Steps.{◌>>=◌}
+use Rattle.acpi_bytes.specs.Steps.{◌>>=◌}
 use Rattle.std.specs.Option.{option_or}
 use Rattle.acpi_sleep.specs.Words.{Absent, AmlError, Found, IsAnswer, IsReached, NotSeen, On, Place, SleepAnswer, SleepTypes, Step, Types, Unseen, after_step, after_unseen, answer_past, argument_end, arguments_end, at_start, byte_at, contains_name, is_operator, operand_end, first_place, segment_end, segments_end, sleep_types_of, step_at, walked}
 

@@ -1,6 +1,6 @@
 -- Opcodes, also of what is run: statements and expressions (ACPI 6.4, sections 20.2.5.3, 20.2.5.4 and 20.3).
 use Rattle.std.specs.Prelude.{ℕ, ◌+◌, ◌==◌, ◌&&◌, ◌||◌, Bool, nat_le, List, Result, Ok, if◌then◌else◌}
-use Rattle.acpi_base.specs.Steps.{◌>>=◌}
+use Rattle.acpi_bytes.specs.Steps.{◌>>=◌}
 use Rattle.acpi_sleep.specs.Blocks.{byte_at}
 use Rattle.acpi_sleep.specs.declared.error.AmlError.{AmlError}
 use Rattle.acpi_sleep.specs.declared.opcode.Opcode.{Opcode}

@@ -1,8 +1,8 @@
 -- The walk along the objects at the root of a block of AML, and what it finds (ACPI 6.4, section 20.2.5).
 use Rattle.std.specs.Prelude.{◌≡◌, ℕ, zero, suc, ◌==◌, ◌&&◌, ◌||◌, ◌<◌, ◌≤◌, Bool, false, not, nat_le, nat_lt, List, drop, length, slice_index, take, Option, Some, None, IfSome, Result, Ok, Err, if◌then◌else◌}
 use Rattle.std.specs.Option.{option_or}
-use Rattle.acpi_base.specs.Bytes.{field_of}
-use Rattle.acpi_base.specs.Steps.{◌>>=◌}
+use Rattle.acpi_bytes.specs.Bytes.{field_of}
+use Rattle.acpi_bytes.specs.Steps.{◌>>=◌}
 use Rattle.acpi_sleep.specs.Arguments.{argument_end, is_operator, operand_end}
 use Rattle.acpi_sleep.specs.Blocks.{block_at, byte_at}
 use Rattle.acpi_sleep.specs.Names.{begins_name, is_root, name_at}

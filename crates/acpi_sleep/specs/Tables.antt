@@ -3,7 +3,7 @@
 use Rattle.std.specs.Prelude.{◌≡◌, ℕ, All, List, [], ◌∷◌, ◌++◌, drop, map, nat_le, Result, Ok, Err, if◌then◌else◌}
 use Rattle.acpi_base.specs.Words.{Memory, Ranges, ◌>>=◌, header_at, plain_kind, table_at}
 use Rattle.acpi.specs.Types.{AcpiError, DSDT, Fadt, SSDT, Signature}
-use Rattle.acpi.specs.Words.{dsdt_ranges, led_by, ssdt_ranges, tables_found}
+use Rattle.acpi.specs.Words.{dsdt_ranges, by_first_fadt, ssdt_ranges, tables_found}
 use Rattle.acpi_fixed.specs.Words.{dsdt_address_of}
 use Rattle.acpi_sleep.specs.Steps.{sleep_types_of}
 use Rattle.acpi_sleep.specs.declared.error.AmlError.{AmlError}
@@ -47,7 +47,7 @@ dsdt_said state m f = do
 
 -- that of the DSDT of the first valid FADT
 unfoldable pub dsdt_answer : ℕ → Memory → List ℕ → Answer
-dsdt_answer state m ps = joined (led_by (dsdt_said state) m ps)
+dsdt_answer state m ps = joined (by_first_fadt (dsdt_said state) m ps)
 
 -- the results of the valid SSDTs, in order
 abbrev pub ssdt_answers : ℕ → List (ℕ × List ℕ) → List Answer

@@ -1,6 +1,6 @@
 -- Terms: what follows each opcode (ACPI 6.4, section 20.2.5).
 use Rattle.std.specs.Prelude.{ℕ, ◌==◌, ◌&&◌, ◌||◌, nat_le, List, [], ◌∷◌, Option, Some, None, Result, Ok, Err, if◌then◌else◌}
-use Rattle.acpi_base.specs.Steps.{◌>>=◌}
+use Rattle.acpi_bytes.specs.Steps.{◌>>=◌}
 use Rattle.acpi_sleep.specs.Arguments.{argument_end, block_end, name_end, operand_end}
 use Rattle.acpi_sleep.specs.Blocks.{byte_at, bytes_end}
 use Rattle.acpi_sleep.specs.Names.{begins_name}

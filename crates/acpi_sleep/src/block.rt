@@ -1,6 +1,6 @@
 //! Bytes, and blocks that begin with their own length (section 20.2.4).
 ghost use Rattle.std.specs.Prelude.{◌≡◌, ◌+◌, ◌^◌, ◌<◌, ◌≤◌, length, IfOk};
-ghost use Rattle.acpi_base.specs.Bytes.{field_of};
+ghost use Rattle.acpi_bytes.specs.Bytes.{field_of};
 ghost use Rattle.acpi_sleep.specs.Words.{block_at, byte_at, bytes_end, package_size};
 
 use crate::error::AmlError;

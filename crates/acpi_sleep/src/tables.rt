@@ -75,7 +75,7 @@ impl<H: Lender> SleepTables for AcpiTables<'_, H> {
 
     // It depends on the root table, on the DSDT and how it is found, and on the members, each as an SSDT.
     ghost answers = { λ t state answer. (answer ≡ of_tables t (tables_answer state))
-        × FootprintBelow t answer_ranges (λ n ps. Ok (tables_answer state n ps)) (λ said. said ≡ Ok answer) };
+        × FootprintBelow t answer_ranges (λ n ps. Ok (tables_answer state n ps)) (λ expected. expected ≡ Ok answer) };
 
     fn sleep_types(&self, state: u8) -> Result<SleepAnswer, SleepError> {
         tables_answer(self, state)

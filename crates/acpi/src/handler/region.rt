@@ -70,7 +70,7 @@ impl AcpiHandler for MappedRegion<'_> {
     /// Maps all bytes from a physical address to the end of the region.
     ///
     /// Fails with `MapFailed` if the region doesn't have `size` bytes from that address on.
-    #[tactic(auto, using(acpi_base::proofs::LentRanges::one_region_lends, crate::proofs::Placing::rest_of_region))]
+    #[tactic(auto, using(acpi_bytes::proofs::LentRanges::one_region_lends, crate::proofs::Placing::rest_of_region))]
     fn map_physical_region(&self, address: u64, size: usize) -> AcpiResult<&[u8]>
         requires { 0 < size }
         ensures enough { IfOk result (λ s. size ≤ length s.now) }

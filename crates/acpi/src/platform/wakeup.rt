@@ -27,7 +27,7 @@ pub fn wakeup_aps<H: Lender, M: Mailbox>(
         apic_id wakeup_vector timeout_loops mailbox.old result mailbox.new }
     // Where the mailbox is, or why none is found, depends on what the lookup of the MADT depends on.
     ensures footprint { FootprintBelow tables.now (λ m. lookup_ranges m madt_kind) mailbox_found
-        (λ said. of_tables tables.now mailbox_found ≡ said) }
+        (λ expected. of_tables tables.now mailbox_found ≡ expected) }
 {
     let address = mailbox_address(tables)?;
     wake(mailbox, address, apic_id, wakeup_vector, timeout_loops)

@@ -3,7 +3,7 @@ ghost use Rattle.std.specs.Prelude.{◌≡◌, ◌^◌, ◌<◌, ◌≤◌, ◌+
 ghost use Rattle.acpi_base.specs.FromStd.{result_ok};
 ghost use Rattle.acpi_base.specs.Words.{IsLentOf, claimed_at, claimed_from, own_accepted, own_accepted_ranges, sdt_kind, shown_by, table_at, table_ranges, IsOfMemory, bytes_of, handler_of, start_of, Allows, Footprint, Gives, plain_kind};
 ghost use Rattle.acpi_fixed.specs.Words.{viewed};
-ghost use Rattle.acpi.specs.Words.{AllowsBelow, FootprintBelow, header_ranges, lookup_ranges, lookup, kind_ranges, members_of, tables_found, found_left, members_left, places_left, root_place, pointers_left, dsdt_place, dsdt_place_ranges, facs_place, facs_place_ranges, accepted_led, accepted_led_ranges, led_by, led_ranges, place_ranges, places_of, signature_of, accept_of, accepted_by, kind_of, lender_of, may_of, memory_of, of_tables, pointers_of, root_address_of, root_of};
+ghost use Rattle.acpi.specs.Words.{AllowsBelow, FootprintBelow, header_ranges, lookup_ranges, lookup, kind_ranges, members_of, tables_found, found_left, members_left, places_left, root_place, pointers_left, dsdt_place, dsdt_place_ranges, facs_place, facs_place_ranges, by_accepted_fadt, by_accepted_fadt_ranges, by_first_fadt, dsdt_and_facs_ranges, place_ranges, places_of, signature_of, accept_of, accepted_by, kind_of, lender_of, may_of, memory_of, of_tables, pointers_of, root_address_of, root_of};
 
 use super::AcpiTables;
 use crate::matches::FoundTables;
@@ -199,7 +199,7 @@ impl<'h, H: Lender, P: Policy> AcpiTables<'h, H, P> {
         // They depend on the root table and the members, each as a table of this type.
         ensures footprint { FootprintBelow self.now (λ m. kind_ranges m (accepted_by self.now T.kind))
             (λ n ps. Ok (tables_found n (accepted_by self.now T.kind) ps))
-            (λ said. said ≡ Ok (found_left H.memory T.kind result)) }
+            (λ expected. expected ≡ Ok (found_left H.memory T.kind result)) }
     {
         FoundTables::new(self.root.handler(), self.pointers(), self.policy.bits())
     }
@@ -212,11 +212,12 @@ impl<'h, H: Lender, P: Policy> AcpiTables<'h, H, P> {
     /// bytes as the length has aren't lent.
     #[tactic(auto, using(crate::proofs::Agreed::facs_from_tables))]
     pub fn facs(&self) -> AcpiResult<AddressRange>
-        requires { AllowsBelow self.now (accepted_led_ranges (accept_of self.now) facs_place_ranges) }
-        ensures exact { result ≡ of_tables self.now (accepted_led (accept_of self.now) facs_place) }
+        requires { AllowsBelow self.now (by_accepted_fadt_ranges (accept_of self.now) facs_place_ranges) }
+        ensures exact { result ≡ of_tables self.now (by_accepted_fadt (accept_of self.now) facs_place) }
         // It depends on what the lookup of the FADT depends on, and on the FACS that this leads to.
-        ensures footprint { FootprintBelow self.now (accepted_led_ranges (accept_of self.now) facs_place_ranges) (accepted_led (accept_of self.now) facs_place)
-            (λ said. result ≡ said) }
+        ensures footprint { FootprintBelow self.now (by_accepted_fadt_ranges (accept_of self.now) facs_place_ranges)
+            (by_accepted_fadt (accept_of self.now) facs_place)
+            (λ expected. result ≡ expected) }
     {
         self.facs_place(&self.find_fadt()?)
     }
@@ -243,7 +244,7 @@ impl<'h, H: Lender> AcpiTables<'h, H> {
         ensures fits { length (members_left H.memory result) < 2 ^ 32 }
         // They depend on the root table and the members, each under its own signature.
         ensures footprint { FootprintBelow self.now header_ranges (λ n ps. Ok (members_of n ps))
-            (λ said. said ≡ Ok (members_left H.memory result)) }
+            (λ expected. expected ≡ Ok (members_left H.memory result)) }
     {
         TableMembers::new(self.root.handler(), self.pointers())
     }
@@ -268,23 +269,23 @@ impl<'h, H: Lender> AcpiTables<'h, H> {
         // FADT leads to.
         ensures footprint { FootprintBelow self.now place_ranges
             (λ n ps. Ok (places_of (root_place self.now) n ps))
-            (λ said. said ≡ Ok (places_left H.memory result)) }
+            (λ expected. expected ≡ Ok (places_left H.memory result)) }
     {
         let root = AddressRange {
             address: self.root_address(),
             length: self.root_length() as u64,
         };
-        let (dsdt, facs) = self.led();
+        let (dsdt, facs) = self.dsdt_and_facs();
         TableRanges::new(self.root.handler(), root, self.pointers(), dsdt, facs)
     }
 
     /// Where the DSDT and the FACS lie that the first valid FADT leads to.
-    fn led(&self) -> (Option<AddressRange>, Option<AddressRange>)
-        requires { AllowsBelow self.now led_ranges }
+    fn dsdt_and_facs(&self) -> (Option<AddressRange>, Option<AddressRange>)
+        requires { AllowsBelow self.now dsdt_and_facs_ranges }
         ensures dsdt { result.0
-            ≡ result_ok (of_tables self.now (led_by dsdt_place)) }
+            ≡ result_ok (of_tables self.now (by_first_fadt dsdt_place)) }
         ensures facs { result.1
-            ≡ result_ok (of_tables self.now (led_by facs_place)) }
+            ≡ result_ok (of_tables self.now (by_first_fadt facs_place)) }
     {
         match self.find_fadt() {
             Ok(fadt) => (self.dsdt_place(&fadt).ok(), self.facs_place(&fadt).ok()),

@@ -33,7 +33,7 @@ pub fn distributor_of(table: &[u8]) -> AcpiResult<Option<GicDistributor>>
 /// How many items of a list the entries contain.
 fn count_of<T: GicPart>(table: &[u8], revision: u8) -> usize
     requires { revision ≡ field_of table.now 8 1 }
-    ensures { result ≡ length (items_of T.said_in table.now) }
+    ensures { result ≡ length (items_of T.part_in table.now) }
 {
     let mut count = 0;
     let mut entries = MadtEntryIter::over(table);
@@ -64,8 +64,8 @@ pub(super) fn collected<T: GicPart, A: Allocator>(
     table: &[u8],
     allocator: A,
 ) -> Result<ManagedSlice<T, A>, AllocError>
-    ensures items { IfOk result (λ s. s ≡ items_of T.said_in table.now) }
-    ensures refused { IfErr result (λ e. 0 < length (items_of T.said_in table.now)) }
+    ensures items { IfOk result (λ s. s ≡ items_of T.part_in table.now) }
+    ensures refused { IfErr result (λ e. 0 < length (items_of T.part_in table.now)) }
 {
     let revision = field(table, 8, 1) as u8; // Revision
     let mut items = room(count_of::<T>(table, revision), allocator)?;

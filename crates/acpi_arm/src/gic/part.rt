@@ -129,17 +129,17 @@ pub trait GicPart: Drop {
     ghost use Rattle.acpi.specs.Types.{MadtEntry};
 
     // What an entry of a table of a revision contains.
-    ghost said_in: { ℕ → MadtEntry → Option Self };
+    ghost part_in: { ℕ → MadtEntry → Option Self };
 
     /// What an entry of a table of a revision contains, or `None` if it is of another kind.
     fn said(entry: &MadtEntry, revision: u8) -> Option<Self>
-        ensures { result ≡ said_in revision entry.now };
+        ensures { result ≡ part_in revision entry.now };
 }
 
 impl GicPart for GicCpuInterface {
     ghost use Rattle.acpi_arm.specs.Gic.{cpu_interface_in};
 
-    ghost said_in = { cpu_interface_in };
+    ghost part_in = { cpu_interface_in };
 
     fn said(entry: &MadtEntry, revision: u8) -> Option<Self> {
         match entry {
@@ -152,7 +152,7 @@ impl GicPart for GicCpuInterface {
 impl GicPart for GicRedistributors {
     ghost use Rattle.acpi_arm.specs.Gic.{redistributors_in};
 
-    ghost said_in = { redistributors_in };
+    ghost part_in = { redistributors_in };
 
     fn said(entry: &MadtEntry, _revision: u8) -> Option<Self> {
         match entry {
@@ -168,7 +168,7 @@ impl GicPart for GicRedistributors {
 impl GicPart for GicTranslationService {
     ghost use Rattle.acpi_arm.specs.Gic.{translation_service_in};
 
-    ghost said_in = { translation_service_in };
+    ghost part_in = { translation_service_in };
 
     fn said(entry: &MadtEntry, _revision: u8) -> Option<Self> {
         match entry {
@@ -184,7 +184,7 @@ impl GicPart for GicTranslationService {
 impl GicPart for GicMsiFrame {
     ghost use Rattle.acpi_arm.specs.Gic.{msi_frame_in};
 
-    ghost said_in = { msi_frame_in };
+    ghost part_in = { msi_frame_in };
 
     fn said(entry: &MadtEntry, _revision: u8) -> Option<Self> {
         match entry {

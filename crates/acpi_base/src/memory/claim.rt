@@ -18,7 +18,7 @@ pub(crate) struct Claim<'h, H: Lender> {
 impl<'h, H: Lender> Claim<'h, H> {
     ghost use Rattle.std.specs.Prelude.{◌≡◌, ◌<◌, true, take, IfOk, IsOk};
     ghost use Rattle.acpi_base.specs.Claim.{IsLentOf, all_of, claimed_at, claimed_from, shown_by};
-    ghost use Rattle.acpi_base.specs.Steps.{Gives, lent};
+    ghost use Rattle.acpi_bytes.specs.Steps.{Gives, lent};
 
     /// A claim of bytes that are mapped already, of which the first `region_length` are shown.
     pub(crate) fn new(start: u64, lent: &'h [u8], region_length: usize, handler: &'h H) -> Self
@@ -37,7 +37,7 @@ impl<'h, H: Lender> Claim<'h, H> {
     }
 
     /// A claim of the bytes that the handler maps at an address, of which the first `size` are shown.
-    #[tactic(auto, using(crate::proofs::LentRanges::lent_front, crate::proofs::LentRanges::lent_none))]
+    #[tactic(auto, using(acpi_bytes::proofs::LentRanges::lent_front, acpi_bytes::proofs::LentRanges::lent_none))]
     pub(crate) fn request(handler: &'h H, address: u64, size: usize) -> AcpiResult<Self>
         requires some { 0 < size }
         requires asked { H.may handler.now address size ≡ true }
@@ -53,7 +53,7 @@ impl<'h, H: Lender> Claim<'h, H> {
 
     /// A claim that shows the `size` bytes from this one's start on: of the bytes that are mapped already, if
     /// these are as many, or else requested anew, after the notice for what was mapped.
-    #[tactic(auto, using(crate::proofs::LentRanges::lent_front))]
+    #[tactic(auto, using(acpi_bytes::proofs::LentRanges::lent_front))]
     pub(crate) fn widen(self, size: usize) -> AcpiResult<Self>
         requires some { 0 < size }
         requires lent { IsLentOf (H.memory (claimed_from self)) self }

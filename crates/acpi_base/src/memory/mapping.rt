@@ -21,8 +21,8 @@ impl<'h, H: Lender, T: PhysicalRecord> PhysicalMapping<'h, H, T> {
     ghost use Rattle.std.specs.Prelude.{◌+◌, ◌^◌, ◌<◌, true, take, IfOk, Some};
     ghost use Rattle.acpi_base.specs.Claim.{all_of, claimed_at, claimed_from};
     ghost use Rattle.acpi_base.specs.Mapping.{start_of, bytes_of, lent_of, mapped_of, handler_of};
-    ghost use Rattle.acpi_base.specs.Memory.{at};
-    ghost use Rattle.acpi_base.specs.Steps.{Gives, lent};
+    ghost use Rattle.acpi_bytes.specs.Memory.{at};
+    ghost use Rattle.acpi_bytes.specs.Steps.{Gives, lent};
 
     /// The mapping of the first `region_length` of these bytes, at least `T::MIN_LENGTH` and at most all, which are
     /// from the physical address `physical_start` on. It reads the record from them. The bytes may come from
@@ -69,7 +69,7 @@ impl<'h, H: Lender, T: PhysicalRecord> PhysicalMapping<'h, H, T> {
     {
         let claim = Claim::request(handler, address, size)?;
         // A `return`, so that the lemma is tried for this value alone.
-        #[tactic(auto, using(crate::proofs::LentRanges::lent_ends))]
+        #[tactic(auto, using(acpi_bytes::proofs::LentRanges::lent_ends))]
         return Ok(PhysicalMapping::of_claim(claim));
     }
 

@@ -1,8 +1,8 @@
 //! A model that is being gathered.
 ghost use Rattle.std.specs.Prelude.{◌≡◌, [], vec_capacity, vec_len, IfOk, IfErr, List, ◌∷◌};
 ghost use Rattle.acpi_base.specs.FromStd.{cons_option};
-ghost use Rattle.acpi_base.specs.declared.error.AcpiError.TheVariants.{AllocError as NoMemory};
-ghost use Rattle.acpi_base.specs.Words.{HasRoom, HoldsRoom, model_behind, gathered, counts_of, item_said, MadtItem, IsEntry, madt_layout};
+ghost use Rattle.acpi_bytes.specs.declared.error.AcpiError.TheVariants.{AllocError as NoMemory};
+ghost use Rattle.acpi_base.specs.Words.{HasRoom, HoldsRoom, model_behind, gathered, counts_of, item_of_entry, MadtItem, IsEntry, madt_layout};
 
 use super::ModelAndProcessors;
 use super::counts::Counts;
@@ -113,15 +113,15 @@ impl<A: Allocator> ModelBuilder<A> {
     /// Adds the item of one more entry after the others, if it has one. There is room for it. Most entries
     /// are of processors: only for these the code is in line.
     #[inline(always)]
-    #[tactic(auto, unfolding(crate::specs::Items::said_of))]
+    #[tactic(auto, unfolding(crate::specs::Items::item_or_fault_of))]
     pub(super) fn add_entry(&mut self, entry: &[u8])
         requires entry { IsEntry madt_layout entry.now }
-        requires room { HasRoom self.old (cons_option (item_said entry.now) []) }
+        requires room { HasRoom self.old (cons_option (item_of_entry entry.now) []) }
         ensures added { (items : List MadtItem)
             → model_behind self.new items
-            ≡ model_behind self.old (cons_option (item_said entry.now) items) }
+            ≡ model_behind self.old (cons_option (item_of_entry entry.now) items) }
         ensures room { (items : List MadtItem)
-            → HasRoom self.old (cons_option (item_said entry.now) items) → HasRoom self.new items }
+            → HasRoom self.old (cons_option (item_of_entry entry.now) items) → HasRoom self.new items }
     {
         match entry[0] {
             0x00 => self.add(processor_of(&LocalApicEntry::read(entry))),
@@ -134,14 +134,14 @@ impl<A: Allocator> ModelBuilder<A> {
     #[inline(never)]
     fn add_other(&mut self, entry: &[u8])
         requires entry { IsEntry madt_layout entry.now }
-        requires room { HasRoom self.old (cons_option (item_said entry.now) []) }
+        requires room { HasRoom self.old (cons_option (item_of_entry entry.now) []) }
         ensures added { (items : List MadtItem)
             → model_behind self.new items
-            ≡ model_behind self.old (cons_option (item_said entry.now) items) }
+            ≡ model_behind self.old (cons_option (item_of_entry entry.now) items) }
         ensures room { (items : List MadtItem)
-            → HasRoom self.old (cons_option (item_said entry.now) items) → HasRoom self.new items }
+            → HasRoom self.old (cons_option (item_of_entry entry.now) items) → HasRoom self.new items }
     {
-        if let Some(Ok(item)) = MadtItem::said(entry) {
+        if let Some(Ok(item)) = MadtItem::of_entry(entry) {
             self.add(item);
         }
     }

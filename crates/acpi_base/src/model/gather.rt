@@ -1,7 +1,7 @@
 //! The walks along the entries: the first one counts, or finds a fault, and the second one gathers.
 ghost use Rattle.std.specs.Prelude.{◌≡◌, [], IfOk, IfErr};
 ghost use Rattle.acpi_base.specs.Words.{AsksMemory, gathered, model_with, items_of, GivesOrFull, counts_of, cut_of};
-ghost use Rattle.acpi_base.specs.declared.error.AcpiError.TheVariants.{AllocError as NoMemory};
+ghost use Rattle.acpi_bytes.specs.declared.error.AcpiError.TheVariants.{AllocError as NoMemory};
 
 use super::ModelAndProcessors;
 use super::builder::ModelBuilder;

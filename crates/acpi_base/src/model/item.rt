@@ -1,7 +1,7 @@
 //! One entry of a MADT as an item of the interrupt model (section 5.2.12).
 ghost use Rattle.std.specs.Prelude.{◌≡◌, Ok};
 ghost use Rattle.acpi_base.specs.FromStd.{result_err};
-ghost use Rattle.acpi_base.specs.Words.{IsEntry, fault_said, flags_fault, io_apic_of, item_of, line_of, madt_layout, nmi_line_of, nmi_source_of, override_fault, override_of, polarity_of, said_of, trigger_mode_of, unless_fault};
+ghost use Rattle.acpi_base.specs.Words.{IsEntry, fault_of_entry, flags_fault, item_of, line_of, madt_layout, nmi_line_of, nmi_source_of, override_fault, override_of, polarity_of, item_or_fault_of, trigger_mode_of, unless_fault};
 ghost use Rattle.acpi_base.specs.declared.model.item.MadtItem.TheVariants as item;
 ghost use Rattle.acpi_base.specs.declared.tables.madt.entry.MadtEntry.TheVariants as variants;
 
@@ -52,10 +52,10 @@ impl MadtItem {
     /// `MpsIntiInvalidPolarity` or else `MpsIntiInvalidTriggerMode`, and for other inputs than LINT0 and
     /// LINT1 with `InvalidLocalNmiLine`.
     #[inline(always)]
-    #[tactic(auto, unfolding(crate::specs::Interrupts::item_of, crate::specs::Items::said_of))]
-    pub(super) fn said(entry: &[u8]) -> Option<Result<MadtItem, MadtError>>
+    #[tactic(auto, unfolding(crate::specs::Interrupts::item_of, crate::specs::Items::item_or_fault_of))]
+    pub(super) fn of_entry(entry: &[u8]) -> Option<Result<MadtItem, MadtError>>
         requires { IsEntry madt_layout entry.now }
-        ensures { result ≡ said_of entry.now }
+        ensures { result ≡ item_or_fault_of entry.now }
     {
         match entry[0] {
             0x00 => Some(Ok(processor_of(&LocalApicEntry::read(entry)))),
@@ -103,9 +103,9 @@ impl MadtItem {
     /// it.
     pub fn fault(entry: &[u8]) -> Option<MadtError>
         requires { IsEntry madt_layout entry.now }
-        ensures { result ≡ fault_said entry.now }
+        ensures { result ≡ fault_of_entry entry.now }
     {
-        match MadtItem::said(entry) {
+        match MadtItem::of_entry(entry) {
             Some(Err(fault)) => Some(fault),
             _ => None,
         }

@@ -306,7 +306,7 @@ pub fn valid_by<'h, H: Lender>(
 ///
 /// Fails as `valid_by` does for that signature.
 #[inline(always)]
-#[tactic(auto, unfolding(crate::specs::Accepted::own_accepted))]
+#[tactic(auto, unfolding(acpi_bytes::specs::Accepted::own_accepted))]
 pub fn own_valid_by<'h, H: Lender>(
     handler: &'h H,
     address: u64,

@@ -6,11 +6,12 @@ ghost use Rattle.acpi_base.specs.Words.{mailbox_of, madt_at, cut_of, entries_of,
 mod apic;
 mod entry;
 mod gic;
+mod readings;
 mod sapic;
 mod wakeup;
 mod walk;
 
-use crate::bytes::{has_bit, u32_in};
+use crate::bytes::has_bit;
 pub use crate::error::MadtError;
 use crate::error::{AcpiError, AcpiResult};
 use crate::memory::handler::{Lender, PhysicalRecord};
@@ -28,6 +29,7 @@ pub use gic::{
     GicInterruptTranslationServiceEntry, GicMsiFrameEntry, GicRedistributorEntry, GiccEntry,
     GicdEntry,
 };
+use readings::madt_at;
 pub use sapic::{IoSapicEntry, LocalSapicEntry, PlatformInterruptSourceEntry};
 use std::alloc::Allocator;
 pub use wakeup::{
@@ -55,13 +57,8 @@ impl PhysicalRecord for Madt {
 
     ghost reading = { madt_at };
 
-    #[tactic(auto, unfolding(crate::specs::Madt::madt_at))]
     fn read(bytes: &[u8]) -> Self {
-        Madt {
-            header: SdtHeader::read(bytes),
-            local_apic_address: u32_in(bytes, 36), // Local Interrupt Controller Address
-            flags: u32_in(bytes, 40), // Flags (Multiple APIC Flags)
-        }
+        madt_at(bytes)
     }
 }
 

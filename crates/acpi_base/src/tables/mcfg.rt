@@ -6,13 +6,15 @@ ghost use Rattle.acpi_base.specs.FromStd.{YieldsFirst, item_count};
 ghost use Rattle.acpi_base.specs.Words.{mcfg_at, mcfg_entry_at, mcfg_entries_left, mcfg_entries_of, MCFG, bytes_of};
 
 mod ecam;
+mod readings;
 
-use crate::bytes::{field_in, skip, u8_in, u16_in};
+use crate::bytes::skip;
 use crate::memory::handler::{Lender, PhysicalRecord};
 use crate::memory::mapping::PhysicalMapping;
 use crate::table::SdtTable;
 use crate::table::header::SdtHeader;
 use crate::table::signature::Signature;
+use readings::{mcfg_at, mcfg_entry_at};
 
 /// The MCFG: regions of memory, each with the configuration space of some PCI buses. Section 5.2.6 reserves
 /// its signature, and its layout is the PCI Firmware Specification's (section 4.1.2). Its entries are after
@@ -29,11 +31,8 @@ impl PhysicalRecord for Mcfg {
 
     ghost reading = { mcfg_at };
 
-    #[tactic(auto, unfolding(crate::specs::Mcfg::mcfg_at))]
     fn read(bytes: &[u8]) -> Self {
-        Mcfg {
-            header: SdtHeader::read(bytes),
-        }
+        mcfg_at(bytes)
     }
 }
 
@@ -75,12 +74,7 @@ impl PhysicalRecord for McfgEntry {
     ghost reading = { mcfg_entry_at };
 
     fn read(bytes: &[u8]) -> Self {
-        McfgEntry {
-            base_address: field_in(bytes, 0, 8), // Base Address
-            pci_segment_group: u16_in(bytes, 8), // PCI Segment Group Number
-            bus_number_start: u8_in(bytes, 10), // Start Bus Number
-            bus_number_end: u8_in(bytes, 11), // End Bus Number
-        }
+        mcfg_entry_at(bytes)
     }
 }
 

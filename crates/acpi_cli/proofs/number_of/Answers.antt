@@ -33,17 +33,17 @@ parsed : {E : Type 0} (base most : ℕ) (ds : List ℕ) (r : Result ℕ E)
     → 1 ≤ base → base ≤ 36 → base ^ most ≤ 2 ^ 64 → length ds ≤ most
     → list_all (λ c. is_digit c base) ds ≡ true → ParsesUnsigned 64 base ds r
     → result_ok r ≡ numeral base most ds
-parsed base most [] (Ok x) low high fits short all said = absurd (omega (arith, said.0.0.0))
-parsed base most [] (Err e) low high fits short all said = refl
-parsed base most (c ∷ cs) (Ok x) low high fits short all said =
+parsed base most [] (Ok x) low high fits short all given = absurd (omega (arith, given.0.0.0))
+parsed base most [] (Err e) low high fits short all given = refl
+parsed base most (c ∷ cs) (Ok x) low high fits short all given =
     let plain = no_plus base (c ∷ cs) high (all_digits base (c ∷ cs) all) in
-    let value = said.1 ∙ ap (digits_value base) plain in
+    let value = given.1 ∙ ap (digits_value base) plain in
     let some : 1 ≤ length (c ∷ cs) = omega arith in
     rw (value, le-leb _ _ some, le-leb _ _ short, all) refl
-parsed base most (c ∷ cs) (Err e) low high fits short all said =
+parsed base most (c ∷ cs) (Err e) low high fits short all given =
     let digits = all_digits base (c ∷ cs) all in
     let plain = no_plus base (c ∷ cs) high digits in
-    absurd (said (rw plain ((omega arith, digits), small base most (c ∷ cs) low fits short digits)))
+    absurd (given (rw plain ((omega arith, digits), small base most (c ∷ cs) low fits short digits)))
 
 pub returns : goal.returns
 returns c =

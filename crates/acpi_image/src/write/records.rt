@@ -81,7 +81,7 @@ pub fn put_rsdp<A: Allocator>(
 
 /// A root table's header, whose checksum is 0 (section 5.2.6): an RSDT's for revision 0, otherwise
 /// an XSDT's.
-#[tactic(auto, unfolding(crate::specs::Written::root_header, acpi_base::specs::Bytes::spelling))]
+#[tactic(auto, unfolding(crate::specs::Written::root_header, acpi_bytes::specs::Bytes::spelling))]
 fn root_header(revision: u8, length: usize) -> [u8; 36]
     ensures { result ≡ root_header (signature_of (kind_of_revision revision)) length }
 {

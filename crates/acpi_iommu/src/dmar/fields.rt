@@ -1,9 +1,13 @@
 //! What the structures of a DMAR contain in their fixed bytes, by their types (sections 8.3 to 8.9).
 ghost use Rattle.std.specs.Prelude.{◌≡◌};
-ghost use Rattle.acpi_iommu.specs.Words.{andd_at, atsr_at, drhd_at, fields_of, includes_pci_all, is_range, kind_of, length_of, register_bytes, rhsa_at, rmrr_at, satc_at, segment_of, sidp_at};
+ghost use Rattle.acpi_iommu.specs.Words.{fields_of, includes_pci_all, is_range, kind_of, length_of, register_bytes, segment_of};
 ghost use Rattle.acpi_base.specs.Words.{has_bit};
 
+mod readings;
+
 use acpi_base::bytes::{bits, field, has_bit};
+use readings::{andd_at, atsr_at, rhsa_at, satc_at, sidp_at};
+pub(super) use readings::{drhd_at, rmrr_at};
 
 /// DMA Remapping Hardware Unit Definition (DRHD, section 8.3): a unit that remaps.
 #[derive(Clone, Copy, Debug)]
@@ -92,18 +96,6 @@ pub enum DmarFields {
 }
 
 impl Drhd {
-    /// The fields in a structure's bytes.
-    pub(super) fn read(bytes: &[u8]) -> Self
-        ensures { result ≡ drhd_at bytes.now }
-    {
-        Drhd {
-            flags: field(bytes, 4, 1) as u8, // Flags
-            size: field(bytes, 5, 1) as u8, // Size
-            segment: segment_of(bytes),
-            register_base: field(bytes, 8, 8), // Register Base Address
-        }
-    }
-
     /// INCLUDE_PCI_ALL (bit 0 of the flags): whether the unit remaps all devices of its segment that no other unit
     /// names.
     pub fn includes_pci_all(&self) -> bool
@@ -121,17 +113,6 @@ impl Drhd {
 }
 
 impl Rmrr {
-    /// The fields in a structure's bytes.
-    pub(super) fn read(bytes: &[u8]) -> Self
-        ensures { result ≡ rmrr_at bytes.now }
-    {
-        Rmrr {
-            segment: segment_of(bytes),
-            base: field(bytes, 8, 8), // Reserved Memory Region Base Address
-            limit: field(bytes, 16, 8), // Reserved Memory Region Limit Address
-        }
-    }
-
     /// Whether the last byte isn't before the first.
     pub(super) fn is_range(&self) -> bool
         ensures { result ≡ is_range self.now }
@@ -184,26 +165,13 @@ pub(super) fn fields_of(bytes: &[u8]) -> Option<DmarFields>
     ensures { result ≡ fields_of bytes.now }
 {
     match kind_of(bytes) {
-        0 => Some(DmarFields::Drhd(Drhd::read(bytes))),
-        1 => Some(DmarFields::Rmrr(Rmrr::read(bytes))),
-        2 => Some(DmarFields::Atsr(Atsr {
-            flags: field(bytes, 4, 1) as u8, // Flags
-            segment: segment_of(bytes),
-        })),
-        3 => Some(DmarFields::Rhsa(Rhsa {
-            register_base: field(bytes, 8, 8), // Register Base Address
-            domain: field(bytes, 16, 4) as u32, // Proximity Domain
-        })),
-        4 => Some(DmarFields::Andd(Andd {
-            device_number: field(bytes, 7, 1) as u8, // ACPI Device Number
-        })),
-        5 => Some(DmarFields::Satc(Satc {
-            flags: field(bytes, 4, 1) as u8, // Flags
-            segment: segment_of(bytes),
-        })),
-        6 => Some(DmarFields::Sidp(Sidp {
-            segment: segment_of(bytes),
-        })),
+        0 => Some(DmarFields::Drhd(drhd_at(bytes))),
+        1 => Some(DmarFields::Rmrr(rmrr_at(bytes))),
+        2 => Some(DmarFields::Atsr(atsr_at(bytes))),
+        3 => Some(DmarFields::Rhsa(rhsa_at(bytes))),
+        4 => Some(DmarFields::Andd(andd_at(bytes))),
+        5 => Some(DmarFields::Satc(satc_at(bytes))),
+        6 => Some(DmarFields::Sidp(sidp_at(bytes))),
         _ => None,
     }
 }

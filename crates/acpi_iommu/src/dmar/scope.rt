@@ -2,7 +2,7 @@
 ghost use Rattle.std.specs.Prelude.{◌≡◌, length, IfSome, IfNone, true, false};
 ghost use Rattle.acpi_iommu.specs.Words.{hops_left, is_front, is_same_hop, last_hop, path_of, bytes_of_scope, enumeration_id, is_numbered, names, reaches, scope_flags, scope_kind, start_bus};
 
-use crate::pieces::{PieceIter, PieceKind, said};
+use crate::pieces::{PieceIter, PieceKind, valid_length};
 use acpi_base::bytes::{field, skip};
 
 /// A step from a bus to a device on it (section 8.3.1). C passes it as these two bytes.
@@ -175,12 +175,12 @@ impl<'a> PieceKind<'a> for Scopes {
 
     ghost shown = { bytes_of_scope };
 
-    ghost whole = { λ s. true };
+    ghost filled = { λ s. true };
 
     fn size_at(bytes: &[u8]) -> Option<usize>
         ensures { result ≡ scope_size bytes.now }
     {
-        said(6, field(bytes, 1, 1) as usize) // Length
+        valid_length(6, field(bytes, 1, 1) as usize) // Length
     }
 
     fn piece(bytes: &'a [u8]) -> DeviceScope<'a> {

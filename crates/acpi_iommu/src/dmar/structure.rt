@@ -4,11 +4,11 @@ ghost use Rattle.acpi_base.specs.Words.{IsTextOf};
 ghost use Rattle.acpi_iommu.specs.Words.{drhd_at, fields_of, includes_pci_all, kind_of, least_of, name_of, rmrr_at, scope_bytes, structure_bytes, names_device, scopes_left, scopes_of, scopes_rest, is_reserved_for, is_unit_of, source_in, has_ended, has_whole_scopes, structure_fault};
 
 use super::Dmar;
-use super::fields::{DmarFields, Drhd, Rmrr, fields_of, kind_of, segment_of};
+use super::fields::{DmarFields, Drhd, Rmrr, drhd_at, fields_of, kind_of, rmrr_at, segment_of};
 use super::scope::{DeviceScopeIter, Hop};
 use super::units::UnitSource;
 use crate::error::IommuError;
-use crate::pieces::{PieceIter, PieceKind, said};
+use crate::pieces::{PieceIter, PieceKind, valid_length};
 use crate::texts::up_to_zero;
 use acpi_base::PhysicalRecord;
 use acpi_base::bytes::{field, skip, text_of};
@@ -106,7 +106,7 @@ impl<'a> DmarStructure<'a> {
         if !self.has_whole_scopes() {
             return Some(IommuError::InvalidStructureLength);
         }
-        if self.kind() == 1 && !Rmrr::read(self.bytes).is_range() {
+        if self.kind() == 1 && !rmrr_at(self.bytes).is_range() {
             return Some(IommuError::InvalidMemoryRange);
         }
         None
@@ -118,7 +118,7 @@ impl<'a> DmarStructure<'a> {
             then Some (drhd_at (structure_bytes self.now)) else None) }
     {
         if self.kind() == 0 {
-            Some(Drhd::read(self.bytes))
+            Some(drhd_at(self.bytes))
         } else {
             None
         }
@@ -130,7 +130,7 @@ impl<'a> DmarStructure<'a> {
             then Some (drhd_at (structure_bytes self.now)) else None) }
     {
         if self.kind() == 0 && segment_of(self.bytes) == segment {
-            Some(Drhd::read(self.bytes))
+            Some(drhd_at(self.bytes))
         } else {
             None
         }
@@ -147,7 +147,7 @@ impl<'a> DmarStructure<'a> {
         while let Some(scope) = scopes.next() {
             if scope.is_numbered(kind, id) {
                 return Some(UnitSource {
-                    unit: Drhd::read(self.bytes),
+                    unit: drhd_at(self.bytes),
                     bus: scope.start_bus(),
                     hop: scope.last_hop(),
                 });
@@ -162,7 +162,7 @@ impl<'a> DmarStructure<'a> {
             then Some (rmrr_at (structure_bytes self.now)) else None) }
     {
         if self.kind() == 1 && segment_of(self.bytes) == segment && self.names(bus, hops) {
-            Some(Rmrr::read(self.bytes))
+            Some(rmrr_at(self.bytes))
         } else {
             None
         }
@@ -207,13 +207,13 @@ impl<'a> PieceKind<'a> for Structures {
 
     ghost shown = { structure_bytes };
 
-    ghost whole = { has_whole_scopes };
+    ghost filled = { has_whole_scopes };
 
     fn size_at(bytes: &[u8]) -> Option<usize>
         ensures { result ≡ structure_size bytes.now }
     {
         let length = field(bytes, 2, 2) as usize; // Length
-        said(least_of(kind_of(bytes)), length)
+        valid_length(least_of(kind_of(bytes)), length)
     }
 
     fn piece(bytes: &'a [u8]) -> DmarStructure<'a> {

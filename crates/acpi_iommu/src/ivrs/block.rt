@@ -1,15 +1,18 @@
 //! The blocks of an IVRS, one at a time (section 5.2).
 ghost use Rattle.std.specs.Prelude.{◌≡◌, length, Some, None, false, if◌then◌else◌};
 ghost use Rattle.acpi_iommu.specs.Words.{block_bytes, block_fault, block_fields, block_kind, is_ivhd, is_ivmd, ivhd_at, ivmd_at, is_memory_for, unit_in, has_ended, has_whole_entries, is_ivhd_of};
-ghost use Rattle.acpi_iommu.specs.Ivrs.{least_of};
+ghost use Rattle.acpi_iommu.specs.Ivrs.{extended_features_of, least_of};
+
+mod readings;
 
 use super::Ivrs;
 use super::blocks::DeviceUnit;
 use super::entry::DeviceEntryIter;
 use crate::error::IommuError;
-use crate::pieces::{PieceIter, PieceKind, said};
+use crate::pieces::{PieceIter, PieceKind, valid_length};
 use acpi_base::bytes::{field, skip};
 use acpi_base::{AddressRange, PhysicalRecord};
+use readings::{ivhd_at, ivmd_at};
 
 /// I/O Virtualization Hardware Definition (IVHD, section 5.2): a unit that remaps.
 #[derive(Clone, Copy, Debug)]
@@ -96,46 +99,19 @@ fn least_of(kind: u8) -> usize
     }
 }
 
-impl Ivhd {
-    /// The fields in a block's bytes.
-    fn read(bytes: &[u8]) -> Self
-        ensures { result ≡ ivhd_at bytes.now }
-    {
-        let kind = kind_of(bytes);
-        Ivhd {
-            kind,
-            flags: field(bytes, 1, 1) as u8, // Flags
-            device_id: field(bytes, 4, 2) as u16, // DeviceID
-            capability_offset: field(bytes, 6, 2) as u16, // Capability Offset
-            base: field(bytes, 8, 8), // IOMMU Base Address
-            segment: field(bytes, 16, 2) as u16, // PCI Segment Group
-            info: field(bytes, 18, 2) as u16, // IOMMU Info
-            features: field(bytes, 20, 4) as u32, // IOMMU Feature Reporting, IOMMU Attributes
-            extended_features: if kind == 0x10 {
-                None
-            } else {
-                Some(field(bytes, 24, 8)) // EFR Register Image
-            },
-        }
+/// EFR Register Image, that of the extended features; type 0x10 has none.
+fn extended_features_of(block: &[u8]) -> Option<u64>
+    ensures { result ≡ extended_features_of block.now }
+{
+    if kind_of(block) == 0x10 {
+        None
+    } else {
+        Some(field(block, 24, 8)) // EFR Register Image
     }
 }
 
 impl Ivmd {
     ghost use Rattle.acpi_iommu.specs.Words.{ends_below};
-
-    /// The fields in a block's bytes.
-    fn read(bytes: &[u8]) -> Self
-        ensures { result ≡ ivmd_at bytes.now }
-    {
-        Ivmd {
-            kind: kind_of(bytes),
-            flags: field(bytes, 1, 1) as u8, // Flags
-            device_id: field(bytes, 4, 2) as u16, // DeviceID
-            auxiliary: field(bytes, 6, 2) as u16, // Auxiliary Data
-            start: field(bytes, 16, 8), // IVMD start address
-            length: field(bytes, 24, 8), // IVMD memory block length
-        }
-    }
 
     /// Whether the memory ends below 2^64.
     pub(super) fn ends_below(&self) -> bool
@@ -175,9 +151,9 @@ impl<'a> IvrsBlock<'a> {
     {
         let kind = self.kind();
         if is_ivhd(kind) {
-            Some(IvrsFields::Ivhd(Ivhd::read(self.bytes)))
+            Some(IvrsFields::Ivhd(ivhd_at(self.bytes)))
         } else if is_ivmd(kind) {
-            Some(IvrsFields::Ivmd(Ivmd::read(self.bytes)))
+            Some(IvrsFields::Ivmd(ivmd_at(self.bytes)))
         } else {
             None
         }
@@ -189,7 +165,7 @@ impl<'a> IvrsBlock<'a> {
             then Some (ivhd_at (block_bytes self.now)) else None) }
     {
         if is_ivhd(self.kind()) {
-            Some(Ivhd::read(self.bytes))
+            Some(ivhd_at(self.bytes))
         } else {
             None
         }
@@ -225,7 +201,7 @@ impl<'a> IvrsBlock<'a> {
         if !self.has_whole_entries() {
             return Some(IommuError::InvalidStructureLength);
         }
-        if is_ivmd(self.kind()) && !Ivmd::read(self.bytes).ends_below() {
+        if is_ivmd(self.kind()) && !ivmd_at(self.bytes).ends_below() {
             return Some(IommuError::InvalidMemoryRange);
         }
         None
@@ -235,7 +211,7 @@ impl<'a> IvrsBlock<'a> {
     pub(super) fn is_of(&self, kind: u8, segment: u16) -> bool
         ensures { result ≡ is_ivhd_of kind segment (block_bytes self.now) }
     {
-        let unit = Ivhd::read(self.bytes);
+        let unit = ivhd_at(self.bytes);
         unit.kind == kind && unit.segment == segment
     }
 
@@ -243,7 +219,7 @@ impl<'a> IvrsBlock<'a> {
     pub(super) fn unit(&self, kind: u8, segment: u16, device_id: u16) -> Option<DeviceUnit>
         ensures { result ≡ unit_in kind segment device_id (block_bytes self.now) }
     {
-        let unit = Ivhd::read(self.bytes);
+        let unit = ivhd_at(self.bytes);
         if unit.kind != kind || unit.segment != segment {
             return None;
         }
@@ -265,7 +241,7 @@ impl<'a> IvrsBlock<'a> {
         ensures { result ≡ (if is_memory_for device_id (block_bytes self.now)
             then Some (ivmd_at (block_bytes self.now)) else None) }
     {
-        let memory = Ivmd::read(self.bytes);
+        let memory = ivmd_at(self.bytes);
         let is_meant = match memory.kind {
             0x20 => true,
             0x21 => memory.device_id == device_id,
@@ -289,13 +265,13 @@ impl<'a> PieceKind<'a> for Blocks {
 
     ghost shown = { block_bytes };
 
-    ghost whole = { has_whole_entries };
+    ghost filled = { has_whole_entries };
 
     fn size_at(bytes: &[u8]) -> Option<usize>
         ensures { result ≡ block_size bytes.now }
     {
         let length = field(bytes, 2, 2) as usize; // Length
-        said(least_of(kind_of(bytes)), length)
+        valid_length(least_of(kind_of(bytes)), length)
     }
 
     fn piece(bytes: &'a [u8]) -> IvrsBlock<'a> {

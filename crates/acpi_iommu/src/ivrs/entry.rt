@@ -1,7 +1,7 @@
 //! The device entries of an IVHD, one at a time (section 5.2).
 ghost use Rattle.std.specs.Prelude.{◌≡◌, ◌<◌};
 ghost use Rattle.acpi_base.specs.Words.{part, IsTextOf};
-ghost use Rattle.acpi_iommu.specs.Words.{alias_of, bytes_of_entry, compatible_id, covers, entry_kind, extended_of, first_id, hardware_id, is_select, is_start, last_id, own_size, settings_of, source_for, special_of, unique_id, unique_id_format};
+ghost use Rattle.acpi_iommu.specs.Words.{alias_of, bytes_of_entry, compatible_id, covers, entry_kind, extended_of, first_id, hardware_id, is_start, last_id, own_size, settings_of, source_for, special_of, unique_id, unique_id_format};
 
 use crate::pieces::{PieceIter, PieceKind};
 use crate::texts::up_to_zero;
@@ -228,7 +228,7 @@ impl<'a> PieceKind<'a> for Entries {
 
     ghost shown = { bytes_of_entry };
 
-    ghost whole = { λ e. true };
+    ghost filled = { λ e. true };
 
     fn size_at(bytes: &[u8]) -> Option<usize>
         ensures { result ≡ entry_size bytes.now }

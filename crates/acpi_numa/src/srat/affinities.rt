@@ -76,10 +76,10 @@ impl MemoryAffinities<Global> {
             result (joined (of_tables tables.now found_affinities)) }
         // It depends on what the lookup of the SRAT depends on.
         ensures footprint { FootprintBelow tables.now (λ m. lookup_ranges m srat_kind) found_affinities
-            (λ said. AnswersOrFull (of_tables tables.now AffinitiesAsk) result (joined said)) }
+            (λ expected. AnswersOrFull (of_tables tables.now AffinitiesAsk) result (joined expected)) }
         // It is the same wherever the valid tables are.
         ensures relocation { Relocation tables.now found_affinities
-            (λ said. AnswersOrFull (of_tables tables.now AffinitiesAsk) result (joined said)) }
+            (λ expected. AnswersOrFull (of_tables tables.now AffinitiesAsk) result (joined expected)) }
     {
         MemoryAffinities::new_in(tables, alloc)
     }
@@ -103,10 +103,10 @@ impl<A: Allocator> MemoryAffinities<A> {
             result (joined (of_tables tables.now found_affinities)) }
         // It depends on what the lookup of the SRAT depends on.
         ensures footprint { FootprintBelow tables.now (λ m. lookup_ranges m srat_kind) found_affinities
-            (λ said. AnswersOrFull (of_tables tables.now AffinitiesAsk) result (joined said)) }
+            (λ expected. AnswersOrFull (of_tables tables.now AffinitiesAsk) result (joined expected)) }
         // It is the same wherever the valid tables are.
         ensures relocation { Relocation tables.now found_affinities
-            (λ said. AnswersOrFull (of_tables tables.now AffinitiesAsk) result (joined said)) }
+            (λ expected. AnswersOrFull (of_tables tables.now AffinitiesAsk) result (joined expected)) }
     {
         let srat = tables.find_table::<Srat>()?;
         MemoryAffinities::over(srat.bytes(), allocator)

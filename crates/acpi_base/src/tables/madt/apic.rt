@@ -1,9 +1,14 @@
 //! Entries of the APIC model (ACPI 6.4, sections 5.2.12.2 to 5.2.12.8, 5.2.12.12 and 5.2.12.13).
 ghost use Rattle.acpi_base.specs.Words.{local_apic_at, io_apic_at, interrupt_source_override_at, nmi_source_at, local_apic_nmi_at, local_apic_address_override_at, local_x2apic_at, x2apic_nmi_at};
 
+mod readings;
+
 use super::entry::EntryHeader;
-use crate::bytes::{field_in, u8_in, u16_in, u32_in};
 use crate::memory::handler::PhysicalRecord;
+use readings::{
+    interrupt_source_override_at, io_apic_at, local_apic_address_override_at, local_apic_at,
+    local_apic_nmi_at, local_x2apic_at, nmi_source_at, x2apic_nmi_at,
+};
 
 /// Processor Local APIC: a processor and its local APIC (ACPI 6.4, section 5.2.12.2).
 #[derive(Clone, Copy, Debug)]
@@ -26,12 +31,7 @@ impl PhysicalRecord for LocalApicEntry {
     ghost reading = { local_apic_at };
 
     fn read(bytes: &[u8]) -> Self {
-        LocalApicEntry {
-            header: EntryHeader::read(bytes),
-            processor_id: u8_in(bytes, 2), // ACPI Processor UID
-            apic_id: u8_in(bytes, 3), // APIC ID
-            flags: u32_in(bytes, 4), // Flags (Local APIC Flags)
-        }
+        local_apic_at(bytes)
     }
 }
 
@@ -56,12 +56,7 @@ impl PhysicalRecord for IoApicEntry {
     ghost reading = { io_apic_at };
 
     fn read(bytes: &[u8]) -> Self {
-        IoApicEntry {
-            header: EntryHeader::read(bytes),
-            io_apic_id: u8_in(bytes, 2), // I/O APIC ID
-            io_apic_address: u32_in(bytes, 4), // I/O APIC Address
-            global_system_interrupt_base: u32_in(bytes, 8), // Global System Interrupt Base
-        }
+        io_apic_at(bytes)
     }
 }
 
@@ -89,13 +84,7 @@ impl PhysicalRecord for InterruptSourceOverrideEntry {
     ghost reading = { interrupt_source_override_at };
 
     fn read(bytes: &[u8]) -> Self {
-        InterruptSourceOverrideEntry {
-            header: EntryHeader::read(bytes),
-            bus: u8_in(bytes, 2), // Bus
-            irq: u8_in(bytes, 3), // Source
-            global_system_interrupt: u32_in(bytes, 4), // Global System Interrupt
-            flags: u16_in(bytes, 8), // Flags (MPS INTI Flags)
-        }
+        interrupt_source_override_at(bytes)
     }
 }
 
@@ -118,11 +107,7 @@ impl PhysicalRecord for NmiSourceEntry {
     ghost reading = { nmi_source_at };
 
     fn read(bytes: &[u8]) -> Self {
-        NmiSourceEntry {
-            header: EntryHeader::read(bytes),
-            flags: u16_in(bytes, 2), // Flags (MPS INTI Flags)
-            global_system_interrupt: u32_in(bytes, 4), // Global System Interrupt
-        }
+        nmi_source_at(bytes)
     }
 }
 
@@ -148,12 +133,7 @@ impl PhysicalRecord for LocalApicNmiEntry {
     ghost reading = { local_apic_nmi_at };
 
     fn read(bytes: &[u8]) -> Self {
-        LocalApicNmiEntry {
-            header: EntryHeader::read(bytes),
-            processor_id: u8_in(bytes, 2), // ACPI Processor UID
-            flags: u16_in(bytes, 3), // Flags (MPS INTI Flags)
-            nmi_line: u8_in(bytes, 5), // Local APIC LINT#
-        }
+        local_apic_nmi_at(bytes)
     }
 }
 
@@ -175,10 +155,7 @@ impl PhysicalRecord for LocalApicAddressOverrideEntry {
     ghost reading = { local_apic_address_override_at };
 
     fn read(bytes: &[u8]) -> Self {
-        LocalApicAddressOverrideEntry {
-            header: EntryHeader::read(bytes),
-            local_apic_address: field_in(bytes, 4, 8), // Local APIC Address
-        }
+        local_apic_address_override_at(bytes)
     }
 }
 
@@ -203,12 +180,7 @@ impl PhysicalRecord for LocalX2ApicEntry {
     ghost reading = { local_x2apic_at };
 
     fn read(bytes: &[u8]) -> Self {
-        LocalX2ApicEntry {
-            header: EntryHeader::read(bytes),
-            x2apic_id: u32_in(bytes, 4), // X2APIC ID
-            flags: u32_in(bytes, 8), // Flags (Local APIC Flags)
-            processor_uid: u32_in(bytes, 12), // ACPI Processor UID
-        }
+        local_x2apic_at(bytes)
     }
 }
 
@@ -234,11 +206,6 @@ impl PhysicalRecord for X2ApicNmiEntry {
     ghost reading = { x2apic_nmi_at };
 
     fn read(bytes: &[u8]) -> Self {
-        X2ApicNmiEntry {
-            header: EntryHeader::read(bytes),
-            flags: u16_in(bytes, 2), // Flags (MPS INTI Flags)
-            processor_uid: u32_in(bytes, 4), // ACPI Processor UID
-            nmi_line: u8_in(bytes, 8), // Local x2APIC LINT#
-        }
+        x2apic_nmi_at(bytes)
     }
 }

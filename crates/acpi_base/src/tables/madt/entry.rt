@@ -2,6 +2,8 @@
 ghost use Rattle.std.specs.Prelude.{◌≡◌, ◌≤◌, Some, slice_index};
 ghost use Rattle.acpi_base.specs.Words.{entry_header_at, IsEntry, entry_of, madt_layout};
 
+mod readings;
+
 use super::apic::{
     InterruptSourceOverrideEntry, IoApicEntry, LocalApicAddressOverrideEntry, LocalApicEntry,
     LocalApicNmiEntry, LocalX2ApicEntry, NmiSourceEntry, X2ApicNmiEntry,
@@ -12,9 +14,9 @@ use super::gic::{
 };
 use super::sapic::{IoSapicEntry, LocalSapicEntry, PlatformInterruptSourceEntry};
 use super::wakeup::MultiprocessorWakeupEntry;
-use crate::bytes::u8_in;
 use crate::entries::{EntryLayout, Grammar, Place, Width};
 use crate::memory::handler::PhysicalRecord;
+use readings::entry_header_at;
 
 /// Type and Length: the two bytes that each entry of a MADT begins with (section 5.2.12).
 #[derive(Clone, Copy, Debug)]
@@ -34,10 +36,7 @@ impl PhysicalRecord for EntryHeader {
 
     #[inline(always)]
     fn read(bytes: &[u8]) -> Self {
-        EntryHeader {
-            entry_type: u8_in(bytes, 0), // Type
-            length: u8_in(bytes, 1), // Length
-        }
+        entry_header_at(bytes)
     }
 }
 

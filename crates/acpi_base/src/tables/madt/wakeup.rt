@@ -2,9 +2,11 @@
 ghost use Rattle.std.specs.Prelude.{◌≡◌};
 ghost use Rattle.acpi_base.specs.Words.{multiprocessor_wakeup_at, command_of};
 
+mod readings;
+
 use super::entry::EntryHeader;
-use crate::bytes::{field_in, u16_in};
 use crate::memory::handler::PhysicalRecord;
+use readings::multiprocessor_wakeup_at;
 
 /// Multiprocessor Wakeup: the mailbox by which the firmware is requested to wake a processor (section
 /// 5.2.12.19).
@@ -26,11 +28,7 @@ impl PhysicalRecord for MultiprocessorWakeupEntry {
     ghost reading = { multiprocessor_wakeup_at };
 
     fn read(bytes: &[u8]) -> Self {
-        MultiprocessorWakeupEntry {
-            header: EntryHeader::read(bytes),
-            mailbox_version: u16_in(bytes, 2), // MailBoxVersion
-            mailbox_address: field_in(bytes, 8, 8), // MailBoxAddress
-        }
+        multiprocessor_wakeup_at(bytes)
     }
 }
 

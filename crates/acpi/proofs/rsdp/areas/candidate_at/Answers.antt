@@ -1,7 +1,7 @@
 use Rattle.std.proofs.Common.{◌≡◌, ◌*◌, false, length, rules, Some, subst, sym, true}
 use Rattle.acpi_base.proofs.FromStd.{first_from_Range}
 use Rattle.acpi_base.specs.Words.{at}
-use Rattle.acpi.proofs.Among.{before_other, front_refused, only_this, unlent_refused}
+use Rattle.acpi.proofs.Among.{before_other, front_refused, only_this, unmapped_refused}
 use Rattle.acpi.specs.Words.{is_refused_in}
 use Rattle.acpi.proofs.rsdp.areas.candidate_at.Goals as goal
 
@@ -20,4 +20,4 @@ returns-in-Ok-clause-refused g c =
     c.args.left c.find-other.result others i some (rw c.unwrap_or.ensures at less))
 
 pub returns-clause-refused : goal.returns-clause-refused
-returns-clause-refused g c = only_this _ _ (unlent_refused _ _ _ c.in-Err.ensures.bytes)
+returns-clause-refused g c = only_this _ _ (unmapped_refused _ _ _ c.in-Err.ensures.bytes)

@@ -13,7 +13,7 @@ returns-in_err-madt-clause-relocation g c = λ n kind address same.
     (returns-in_err-madt-clause-exact g c)
 
 pub returns-clause-exact : goal.returns-clause-exact
-returns-clause-exact g c = let said = rw c.bytes.ensures.value at c.of.ensures in search (rules, said)
+returns-clause-exact g c = let exactly = rw c.bytes.ensures.value at c.of.ensures in search (rules, exactly)
 
 pub returns-clause-footprint : goal.returns-clause-footprint
 returns-clause-footprint g c = λ n h.

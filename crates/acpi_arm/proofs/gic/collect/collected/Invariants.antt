@@ -6,8 +6,8 @@ use Rattle.acpi_arm.proofs.gic.collect.collected.Given as goal
 -- what is kept and what is left are all, and there is room for what is left
 abbrev pub invariant-loop-entry : goal.invariant-loop-entry
 invariant-loop-entry g l =
-    let left = filter_map (g.T.GicPart.said_in l.revision) (entries_left l.entries) in
-    (l.items.items ++ left ≡ items_of g.T.GicPart.said_in l.table)
+    let left = filter_map (g.T.GicPart.part_in l.revision) (entries_left l.entries) in
+    (l.items.items ++ left ≡ items_of g.T.GicPart.part_in l.table)
     × (vec_len l.items + length left ≤ vec_capacity l.items)
 
 abbrev pub decreases-loop-entry : goal.decreases-loop-entry

@@ -6,12 +6,12 @@ use Rattle.acpi_base.proofs.OwnTable.{is_signature}
 use Rattle.acpi_base.proofs.table.lookup.claim_header.Goals as goal
 
 -- without a header no table is accepted for any kind
-unlent : {X : Type 0} (m : Memory) (s : Signature) (p : ℕ) (r : Result X AcpiError)
+unmapped : {X : Type 0} (m : Memory) (s : Signature) (p : ℕ) (r : Result X AcpiError)
     → ((e : AcpiError) → r ≡ Err e → lent m p 36 ≡ Err e)
     → IfErr r (λ e. (accept : ℕ) (k : Kind) → k.signature ≡ s → k.names ≡ check_names s
     → table_at m (accepted accept k) p ≡ Err e)
-unlent m s p (Ok claim) refused = tt
-unlent m s p (Err e) refused = λ accept k same names. no_accepted accept m k p e (refused e refl)
+unmapped m s p (Ok claim) refused = tt
+unmapped m s p (Err e) refused = λ accept k same names. no_accepted accept m k p e (refused e refl)
 
 pub returns-clause-signature : goal.returns-clause-signature
 returns-clause-signature g c = is_signature c.args.signature c.leading.result _
@@ -19,7 +19,7 @@ returns-clause-signature g c = is_signature c.args.signature c.leading.result _
 
 pub returns-in_err-head-clause-unaccepted : goal.returns-in_err-head-clause-unaccepted
 returns-in_err-head-clause-unaccepted g c =
-    unlent (g.H.Lender.memory c.args.handler.now) c.args.signature c.args.address c.from_residual.result
+    unmapped (g.H.Lender.memory c.args.handler.now) c.args.signature c.args.address c.from_residual.result
     (λ e refused. grind (arith, common_steps))
 
 pub returns-then-not-is-clause-unaccepted : goal.returns-then-not-is-clause-unaccepted

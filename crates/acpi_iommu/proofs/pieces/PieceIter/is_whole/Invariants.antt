@@ -6,8 +6,8 @@ use Rattle.acpi_iommu.proofs.pieces.PieceIter.is_whole.Given as goal
 -- what is tested and what is left to test are the whole, and the rest is the same
 abbrev pub invariant-loop-piece : goal.invariant-loop-piece
 invariant-loop-piece g l = record {
-  tested : (l.all_whole && list_all g.K.PieceKind.whole (left g.K.PieceKind.size l.self))
-      ≡ list_all g.K.PieceKind.whole (left g.K.PieceKind.size l.fn.self);
+  tested : (l.all_whole && list_all g.K.PieceKind.filled (left g.K.PieceKind.size l.self))
+      ≡ list_all g.K.PieceKind.filled (left g.K.PieceKind.size l.fn.self);
   rest : rest_after g.K.PieceKind.size l.self ≡ rest_after g.K.PieceKind.size l.fn.self;
 }
 

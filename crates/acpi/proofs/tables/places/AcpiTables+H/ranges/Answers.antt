@@ -1,12 +1,12 @@
 use Rattle.std.proofs.Common.{refl, rules}
 use Rattle.acpi.proofs.Agreed.{from_tables, in_ok, same_places}
-use Rattle.acpi.proofs.Asked.{asked_led, asked_members}
+use Rattle.acpi.proofs.Asked.{asked_dsdt_and_facs, asked_members}
 use Rattle.acpi.proofs.Placing.{fits_places, places_few}
 use Rattle.acpi.specs.Words.{root_place, width_of, kind_of, may_of, memory_of, pointers_of, root_of}
 use Rattle.acpi.proofs.tables.places.AcpiTables+H.ranges.Goals as goal
 
-pub led-dsdt-requires : goal.led-dsdt-requires
-led-dsdt-requires g c = asked_led (may_of c.args.self.now) (memory_of c.args.self.now)
+pub dsdt_and_facs-dsdt-requires : goal.dsdt_and_facs-dsdt-requires
+dsdt_and_facs-dsdt-requires g c = asked_dsdt_and_facs (may_of c.args.self.now) (memory_of c.args.self.now)
     (pointers_of c.args.self.now) c.requires
 
 pub new-requires : goal.new-requires

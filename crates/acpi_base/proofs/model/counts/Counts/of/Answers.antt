@@ -1,11 +1,11 @@
 use Rattle.std.proofs.Common.{◌≤◌, length, drop, refl, ap, arith}
 use Rattle.acpi_base.proofs.EntryLists.{counted_short, said_few, said_faults, said_items}
-use Rattle.acpi_base.specs.Words.{counts_of, said_in}
+use Rattle.acpi_base.specs.Words.{counts_of, items_or_faults_in}
 use Rattle.acpi_base.proofs.model.counts.Counts.of.Goals as goal
 
 pub loop-entry-init : goal.loop-entry-init
 loop-entry-init c =
-    let few : length (said_in (drop 44 c.args.table.now)) ≤ length c.args.table.now =
+    let few : length (items_or_faults_in (drop 44 c.args.table.now)) ≤ length c.args.table.now =
     omega (arith, said_few c.args.table.now) in
     rw c.skip-rest.ensures (record {
       passed = said_faults _;

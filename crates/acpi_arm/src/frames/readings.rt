@@ -1,0 +1,21 @@
+//! Made by scripts/readings: records, as their definitions in specs/ read them from bytes.
+ghost use Rattle.std.specs.Prelude.{◌≡◌};
+ghost use Rattle.acpi_arm.specs.Timers.{frame_at};
+
+use super::{GtFrame, interrupt_at};
+use crate::interrupt::unless_ones;
+use acpi_base::bytes::{field, has_bit};
+
+pub(crate) fn frame_at(bytes: &[u8]) -> GtFrame
+    ensures { result ≡ frame_at bytes.now }
+{
+    GtFrame {
+        number: field(bytes, 0, 1) as u8, // GT Frame Number
+        base: field(bytes, 4, 8), // GTx Physical address (CntBaseX)
+        el0_base: unless_ones(field(bytes, 12, 8)), // GTx Physical address (CntEL0BaseX)
+        physical_timer: interrupt_at(bytes, 20), // GTx Physical Timer GSIV, GTx Physical Timer Flags
+        virtual_timer: interrupt_at(bytes, 28), // GTx Virtual Timer GSIV, GTx Virtual Timer Flags
+        is_secure: has_bit(field(bytes, 36, 4), 0), // GTx Common Flags, bit 0: Secure Timer
+        is_always_on: has_bit(field(bytes, 36, 4), 1), // GTx Common Flags, bit 1: Always-on Capability
+    }
+}

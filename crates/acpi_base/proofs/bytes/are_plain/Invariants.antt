@@ -1,5 +1,0 @@
-use Rattle.std.proofs.Common.{◌≡◌, true, take, IsAscii}
-use Rattle.acpi_base.proofs.bytes.are_plain.Given as goal
-
-abbrev pub invariant-loop-byte : goal.invariant-loop-byte
-invariant-loop-byte l = (l.plain ≡ true) → IsAscii (take l.byte-index l.bytes)

@@ -1,0 +1,12 @@
+pub mod Accepted
+pub mod Clones
+pub mod Cuts
+pub mod Decoding
+pub mod FromStd
+pub mod LentRanges
+pub mod Names
+pub mod Spelling
+pub mod Steps
+pub mod Sums
+pub mod Texts
+pub mod WordSums

@@ -1,0 +1,21 @@
+//! What bytes of static ACPI tables mean before any memory is mapped: fields, sums and texts of bytes, entries by a
+//! grammar, generic addresses, the header that every table begins with, and its checks.
+//!
+//! Also here: errors, ranges, owned slices, and the traits of handlers, which map memory, and of records, which are
+//! read from bytes.
+//!
+//! Section numbers are those of the ACPI Specification, version 6.4.
+#![tactic(auto)]
+
+pub mod address;
+pub mod bytes;
+mod codes;
+pub mod entries;
+pub mod error;
+pub mod extended;
+pub mod handler;
+pub mod header;
+pub mod managed_slice;
+pub mod range;
+pub mod signature;
+mod sum;

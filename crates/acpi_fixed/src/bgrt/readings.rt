@@ -1,0 +1,23 @@
+//! Made by scripts/readings: records, as their definitions in specs/ read them from bytes.
+ghost use Rattle.std.specs.Prelude.{◌≡◌, ◌≤◌, length};
+ghost use Rattle.acpi_fixed.specs.Bgrt.{bgrt_at};
+
+use super::{Bgrt, PhysicalRecord, SdtHeader};
+use acpi_base::bytes::{field_in, u8_in, u16_in, u32_in};
+
+#[inline(always)]
+#[tactic(auto, unfolding(crate::specs::Bgrt::bgrt_at))]
+pub(crate) fn bgrt_at(bytes: &[u8]) -> Bgrt
+    requires { 56 ≤ length bytes.now }
+    ensures { result ≡ bgrt_at bytes.now }
+{
+    Bgrt {
+        header: SdtHeader::read(bytes),
+        version: u16_in(bytes, 36), // Version
+        status: u8_in(bytes, 38), // Status
+        image_type: u8_in(bytes, 39), // Image Type
+        image_address: field_in(bytes, 40, 8), // Image Address
+        x: u32_in(bytes, 48), // Image Offset X
+        y: u32_in(bytes, 52), // Image Offset Y
+    }
+}
