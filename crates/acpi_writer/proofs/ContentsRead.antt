@@ -4,18 +4,19 @@ use Rattle.std.proofs.Common.{◌≡◌, ℕ, ◌+◌, ◌*◌, ◌<◌, ◌≤�
 use Rattle.acpi_base.proofs.FromStd.{and_parts, le-leb, bytes_eq-Decides}
 use Rattle.acpi_base.proofs.Words.{bind_ok}
 use Rattle.acpi_writer.specs.Words.{AllByRecursion, chars, is_utf8, part, spelling, check_names, check_table, header_at, ◌>>=◌, holds, letters_of, Memory, sdt_kind, Signature, BGRT, FADT, GTDT, HPET, MADT, MCFG, SLIT, SPCR, SRAT, SSDT, AcpiError, aml_checked, IsBgrt, bgrt_body, SaysImage, FitsContents, bytes_of, contents_written, most, or_none, placed, signature_of, fadt_body, fadt_checked, fadt_written, IsFadt, IsGicMadt, gic_body, gic_checked, gic_written, gic_read, IsGtdt, gtdt_body, gtdt_checked, SaysTimers, hpet_body, IsHpet, is_named, check_tables, AreValid, first_at, first_of, place_of, HasFadt, HasTable, Says, platform_read, madt_body, madt_checked, madt_written, IsMadt, model_read, mcfg_body, IsMcfg, IsSlit, slit_body, slit_checked, slit_written, spcr_body, spcr_checked, spcr_written, IsSpcr, SaysConsole, SratContents, srat_body, srat_checked, srat_written, AreIds, IsTableOf, IsValid, table_written, TableContents, Bgrt, Fadt, GicMadt, Gtdt, Hpet, Madt, Mcfg, Slit, Spcr, Srat, Ssdt, WriterError, FadtContents, GtdtContents, TableIds, GicContents, MadtContents, SpcrContents, IsSrat, SaysDomains, BgrtContents, SlitContents, gtdt_written_by, madt_fields, hpet_fields, front_fields, fixed_list, bgrt_fields, gtdt_fields, hpet_of, lookup, found_regions, model_in, platform_of, HpetInfo, found_gic, gtdt_kind, bgrt_at, srat_kind, distance_of}
-use Rattle.acpi_writer.proofs.ShortTables.{bgrt_read, hpet_read, mcfg_read, slit_is, slit_read}
-use Rattle.acpi_writer.proofs.Bits.{was_true}
+use Rattle.acpi_writer.proofs.ShortTables.{bgrt_read}
+use Rattle.acpi_table_writer.proofs.ShortTables.{hpet_read, mcfg_read, slit_is, slit_read}
+use Rattle.acpi_table_writer.proofs.Bits.{was_true}
 use Rattle.acpi_writer.proofs.FadtRead.{fadt_read}
-use Rattle.acpi_writer.proofs.GicRead.{gic_madt_is, gic_madt_read}
-use Rattle.acpi_writer.proofs.GtdtRead.{gtdt_read}
+use Rattle.acpi_table_writer.proofs.GicRead.{gic_madt_is, gic_madt_read}
+use Rattle.acpi_table_writer.proofs.GtdtRead.{gtdt_read}
 use Rattle.acpi_writer.proofs.LaidRead.{platform_has}
-use Rattle.acpi_writer.proofs.MadtRead.{madt_is, madt_read}
-use Rattle.acpi_writer.proofs.Sized.{wrote}
+use Rattle.acpi_table_writer.proofs.MadtRead.{madt_is, madt_read}
+use Rattle.acpi_table_writer.proofs.Sized.{wrote}
 use Rattle.acpi_writer.proofs.SpcrRead.{spcr_read}
-use Rattle.acpi_writer.proofs.SratRead.{srat_is, srat_read}
-use Rattle.acpi_writer.specs.Srat as srat
-use Rattle.acpi_writer.proofs.Tables as table
+use Rattle.acpi_table_writer.proofs.SratRead.{srat_is, srat_read}
+use Rattle.acpi_table_writer.specs.Srat as srat
+use Rattle.acpi_table_writer.proofs.Tables as table
 
 -- ---- a table that is written
 
@@ -270,7 +271,7 @@ module _
   pub says : {A : Type 0} → Says A m ps cs
   says {A = A} = record {
     model = λ c is_first. model {A = A} c is_first;
-    platform = λ c q is_first said. platform_has m ps c q (model {A = A} c is_first) said;
+    platform = λ c q is_first given. platform_has m ps c q (model {A = A} c is_first) given;
     platform_is = λ c d is_fadt is_madt. platform_found {A = A} c d is_fadt is_madt;
     fadt = fadt_found;
     regions = regions;

@@ -6,10 +6,10 @@ use Rattle.acpi_fixed.proofs.Profiles.{profile_read}
 use Rattle.acpi_writer.specs.Words.{AllByRecursion, list_all, timer_of, generic_address_of, has_bit, field_of, filled_part, part, spelling, header_at, GenericAddress, AcpiError, InvalidDsdtAddress, InvalidFacsAddress, fadt_at, is_profile, pm_timer_of, profile_for, feature_bits, gpe_of, address_or, block_at, extended_address, extended_number, has_extended, optional_block_of, register_of, timer_block_of, address_fields, address_or_zero, are_blocks, are_placed, arm_flags, body_with, bytes_wide, fadt_body, feature_flags, fixed_of, front_fields, gpe_register, has_address, narrow, pc_flags, registers, wide_fields, AreFitFor, FadtIsRead, HasFields, HasFlags, HasHardware, HasLegacy, HasNeededBlocks, IsFadt, field_at, field_bytes, field_size, field_value, fields_bytes, offset_of, FitsRegister, is_register, register_bytes, FadtContents, FadtHardware, Fixed, Reduced, FixedHardware, TableIds, BadProfile, NoAddress, are_registers, is_block, optional_blocks}
 use Rattle.acpi_writer.specs.Fadt.{IsReadAs}
 use Rattle.acpi_base.proofs.Words.{holds_ok}
-use Rattle.acpi_writer.proofs.Bits.{flags_read, is_off, was_true}
-use Rattle.acpi_writer.proofs.FieldsRead.{each_long, part_in, part_of, read_in}
+use Rattle.acpi_table_writer.proofs.Bits.{flags_read, is_off, was_true}
+use Rattle.acpi_table_writer.proofs.FieldsRead.{each_long, part_in, part_of, read_in}
 use Rattle.acpi_writer.proofs.RegisterRead.{block_is, block_read, filled, given_read, gpe_read, made, optional_read, register_long, register_read, timer_read}
-use Rattle.acpi_writer.proofs.Tables as table
+use Rattle.acpi_table_writer.proofs.Tables as table
 
 -- ---- values
 

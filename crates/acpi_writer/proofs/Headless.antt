@@ -6,7 +6,7 @@ use Rattle.acpi.specs.Words.{facs_at}
 use Rattle.acpi_image.proofs.Written.{length-rsdp_to}
 use Rattle.acpi_image.proofs.WrittenRoot.{IsRsdp, is_rsdp}
 use Rattle.acpi_writer.specs.Words.{field_of, spelling, has_bit, header_at, Memory, at, IsMemory, check_rsdp, check_sum, facs_length, facs_length_in, range, rsdp_to, Leads, RsdpIsRead, rsdp_bytes, bit_of, FacsIsRead, FitsFacs, IsReadAs, facs_bytes, FacsContents, facs_gap, facs_laid, facs_room, HasFacs}
-use Rattle.acpi_writer.proofs.Bits.{two_bits}
+use Rattle.acpi_table_writer.proofs.Bits.{two_bits}
 use Rattle.acpi_writer.proofs.LaidRead.{front_lent, rest_lent}
 
 -- ---- an RSDP

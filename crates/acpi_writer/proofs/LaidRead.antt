@@ -6,12 +6,12 @@ use Rattle.acpi.proofs.First.{here}
 use Rattle.acpi_image.proofs.Written.{header_names, table_is, length-with_sum, part_front}
 use Rattle.acpi_writer.specs.Words.{result_ok, AllByRecursion, spelling, field_of, part, sum_of, check_names, check_table, header_at, Memory, HoldsRange, IsMemory, Region, at, rest_from, holds, lent, ◌>>=◌, own_table_at, plain_kind, sdt_kind, table_at, kind, letters_of, Model, AcpiError, SdtInvalidChecksum, SdtInvalidLength, Signature, PowerProfile, or_later, fadt_kind, lookup, model_in, platform_of, bytes_found, timer_of, is_named, HasFirst, HasPlatform, HpetInImage, MadtInImage, McfgInImage, PlatformInImage, gap, laid, padded, LaidAreFound, IsValid, IsTableOf, table_bytes, unsummed, hpet_fields, madt_fields, model_read, TableIds, MadtContents, fadt_at, profile_of, PlatformInfo, PmTimer, Plan, records_of, with_sum, sum_byte}
 use Rattle.acpi_image.specs.Words.{pointers_of}
-use Rattle.acpi_writer.proofs.Bits.{was_true}
-use Rattle.acpi_writer.proofs.ShortTables.{hpet_read, mcfg_read}
-use Rattle.acpi_writer.proofs.MadtRead.{madt_read}
+use Rattle.acpi_table_writer.proofs.Bits.{was_true}
+use Rattle.acpi_table_writer.proofs.ShortTables.{hpet_read, mcfg_read}
+use Rattle.acpi_table_writer.proofs.MadtRead.{madt_read}
 use Rattle.acpi.proofs.Moved.{first_of, lookup_is}
 use Rattle.acpi_image.proofs.WrittenLaws.{written_is_read}
-use Rattle.acpi_writer.proofs.Tables as table
+use Rattle.acpi_table_writer.proofs.Tables as table
 
 -- ---- the front and the rest of what is mapped
 
@@ -194,8 +194,9 @@ hpet_in_image p t ids i is first =
 -- ---- where the interrupt model is found, the platform has it
 
 timed : {A : Type 0} (c : MadtContents) (profile : PowerProfile) (q : PlatformInfo A)
-    (said : Result (Model A) AcpiError) (timer : Result (Option PmTimer) AcpiError) → said ≡ Ok (model_read c)
-    → (said >>= λ s. timer >>= λ found. platform (record {
+    (read_model : Result (Model A) AcpiError) (timer : Result (Option PmTimer) AcpiError) → read_model
+    ≡ Ok (model_read c)
+    → (read_model >>= λ s. timer >>= λ found. platform (record {
       power_profile = profile;
       interrupt_model = s.0;
       processor_info =

@@ -4,14 +4,15 @@ use Rattle.acpi_base.proofs.FromStd.{bytes_eq-Decides, and_parts, le-leb, lt-ltb
 use Rattle.acpi_base.proofs.Words.{bind_ok, holds_ok, same_ok}
 use Rattle.acpi.proofs.Search.{whole_there}
 use Rattle.acpi_image.proofs.Written.{table_is}
-use Rattle.acpi_writer.specs.Words.{AllByRecursion, aml_checked, table_written, result_ok, Memory, IsMemory, at, plain_kind, sdt_kind, table_at, letters_of, AcpiError, Signature, DSDT, FADT, XSDT, dsdt_stream, stream_by, stream_of, lookup, facs_place, led_by, range, at_hand, check_rsdp, check_whole, checked_length, rsdp_at, Xsdt, FitsContents, bytes_of, contents_written, most, or_none, FitsFacs, is_named, addresses, gap, laid, padded, rounded, FacsFits, Machine, after_dsdt, check_by, dsdt_address, dsdt_at, dsdt_end, dsdt_length, dsdt_of, dsdt_written, facs_address, facs_at, facs_from, facs_gap, facs_laid, facs_room, listed, machine_by, pointers_of, rest_bytes, size_by, tables_address, tree_by, tree_bytes, tree_size, xsdt_bytes, xsdt_length, HasFacs, IsOpened, IsWritable, MachineIsRead, TreeIsRead, first_at, first_of, place_of, IsRoot, Leads, rsdp_bytes, AreIds, IsValid, are_texts, AmlContents, TableContents, Fadt, BadName, TooLong, FacsContents, FadtContents, TableIds}
-use Rattle.acpi_writer.proofs.Bits.{is_off}
+use Rattle.acpi_writer.specs.Words.{AllByRecursion, aml_checked, table_written, result_ok, Memory, IsMemory, at, plain_kind, sdt_kind, table_at, letters_of, AcpiError, Signature, DSDT, FADT, XSDT, dsdt_stream, stream_by, stream_of, lookup, facs_place, by_first_fadt, range, at_hand, check_rsdp, check_whole, checked_length, rsdp_at, Xsdt, FitsContents, bytes_of, contents_written, most, or_none, FitsFacs, is_named, addresses, gap, laid, padded, rounded, FacsFits, Machine, after_dsdt, check_by, dsdt_address, dsdt_at, dsdt_end, dsdt_length, dsdt_of, dsdt_written, facs_address, facs_at, facs_from, facs_gap, facs_laid, facs_room, listed, machine_by, pointers_of, rest_bytes, size_by, tables_address, tree_by, tree_bytes, tree_size, xsdt_bytes, xsdt_length, HasFacs, IsOpened, IsWritable, MachineIsRead, TreeIsRead, first_at, first_of, place_of, IsRoot, Leads, rsdp_bytes, AreIds, IsValid, are_texts, AmlContents, TableContents, Fadt, BadName, TooLong, FacsContents, FadtContents, TableIds}
+use Rattle.acpi_table_writer.proofs.Bits.{is_off}
 use Rattle.acpi_writer.proofs.ContentsRead.{IsContents, all_contents, all_valid, checked_table, fadt_found, first_found, letters_are, says}
 use Rattle.acpi_writer.proofs.Headless.{has_facs, laid_long, rsdp_long, rsdp_read}
 use Rattle.acpi_writer.proofs.LaidRead.{front_lent, laid_found, rest_lent, there}
 use Rattle.acpi_writer.proofs.ShortTables.{dsdt_read, root_read, root_valid}
-use Rattle.acpi_writer.proofs.Tables.{table_length}
-use Rattle.acpi_writer.proofs.Sized.{wrote, padded_long, root_long, tree_size_is, xsdt_long}
+use Rattle.acpi_table_writer.proofs.Tables.{table_length}
+use Rattle.acpi_writer.proofs.Sized.{padded_long, root_long, tree_size_is, xsdt_long}
+use Rattle.acpi_table_writer.proofs.Sized.{wrote}
 
 -- ---- an RSDP that is mapped
 
@@ -200,10 +201,10 @@ module _ (m : Memory) (rsdp a : ℕ) (x : Machine) (h : IsMemory m) (is : IsWrit
       let fits : FitsFacs f = subst FacsFits some is.fit.facs in
       has_facs m p f h fits (subst (λ o. at m p (length (facs_laid p o)) ≡ Some (facs_laid p o)) some facs_lent)
 
-  led_there : (c : FadtContents) (f : FacsContents) → first_of FADT x.tables.now ≡ Some (Fadt c) → x.facs ≡ Some f
+  facs_there : (c : FadtContents) (f : FacsContents) → first_of FADT x.tables.now ≡ Some (Fadt c) → x.facs ≡ Some f
       → c.facs ≡ Some (facs_address a x)
-      → led_by facs_place m (pointers_of a x) ≡ Ok (range (facs_address a x) 64)
-  led_there c f is_first some same =
+      → by_first_fadt facs_place m (pointers_of a x) ≡ Ok (range (facs_address a x) 64)
+  facs_there c f is_first some same =
       let fadt = fadt_found x.ids m (pointers_of a x) (λ s. place_of x.ids s (tables_address a x) x.tables.now)
       x.tables.now known.tables found c is_first in
       let leads_there = fadt.2.fields.facs in
@@ -216,7 +217,7 @@ module _ (m : Memory) (rsdp a : ℕ) (x : Machine) (h : IsMemory m) (is : IsWrit
     listed = root_read Xsdt x.ids (pointers_of a x) xsdt root;
     found = found;
     facs = facs_found;
-    led_to = led_there;
+    facs_is_found = facs_there;
     dsdt = dsdt_found;
     aml = aml_found;
   }

@@ -3,8 +3,8 @@ use Rattle.std.proofs.Common.{◌≡◌, ℕ, ◌<◌, true, false, List, length
 use Rattle.acpi_base.proofs.FromStd.{and_parts, append-nil, ne_eqb}
 use Rattle.acpi_base.proofs.Words.{size_read, space_read}
 use Rattle.acpi_writer.specs.Words.{generic_address_of, is_named_space, space_code, field_of, filled_part, part, spelling, GenericAddress, RegisterBlock, GpeBlock, gpe_of, block_at, block_of, has_extended, optional_block_of, register_of, timer_block_of, usable_extended, gpe_length, gpe_register, is_given, port_of, FitsAddress, FitsRegister, address_bytes, address_fields, is_register, register_bytes, register_or_zeros, field_at, field_size, field_value, offset_of, is_block}
-use Rattle.acpi_writer.proofs.Bits.{is_off}
-use Rattle.acpi_writer.proofs.FieldsRead.{read_at}
+use Rattle.acpi_table_writer.proofs.Bits.{is_off}
+use Rattle.acpi_table_writer.proofs.FieldsRead.{read_at}
 
 -- ---- its bytes
 

@@ -3,10 +3,10 @@ use Rattle.std.proofs.Common.{◌≡◌, ℕ, ◌+◌, ◌-◌, ◌%◌, ◌^◌
 use Rattle.acpi_base.proofs.FromStd.{and_parts, eqb-true, le-leb, ltb-true, drop-drop, take_all, bytes_eq-Decides, IsUtf8-append, IsUtf8-from_is_utf8, is_utf8-from_IsUtf8, All-from_recursion}
 use Rattle.acpi_writer.specs.Words.{option_or, chars, is_utf8, generic_address_of, field_of, filled_part, part, spelling, header_at, configured_baud, interface_of, is_interface, namespace_of, spcr_at, unless, bits_of, has_bit, interrupt_bits, GenericAddress, AcpiError, FitsAddress, FitsRegister, address_bytes, address_fields, register_or_zeros, baud_code, device_written, fixed_list, is_base, is_somewhere, spcr_body, spcr_fields, IsSpcr, SaysConsole, SaysDevice, SaysPort, SpcrIsRead, readable, BadCode, NoAddress, TableIds, SpcrContents, FitsField, field_at, field_size, field_value, offset_of, Zeros}
 use Rattle.acpi_base.proofs.Words.{holds_ok, interface_read}
-use Rattle.acpi_writer.proofs.Bits.{is_off, was_true}
-use Rattle.acpi_writer.proofs.FieldsRead.{read_in}
+use Rattle.acpi_table_writer.proofs.Bits.{is_off, was_true}
+use Rattle.acpi_table_writer.proofs.FieldsRead.{read_in}
 use Rattle.acpi_writer.proofs.RegisterRead.{address_field, address_read}
-use Rattle.acpi_writer.proofs.Tables as table
+use Rattle.acpi_table_writer.proofs.Tables as table
 
 -- ---- the rate
 

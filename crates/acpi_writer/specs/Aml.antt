@@ -1,6 +1,6 @@
 -- The tables of AML that are written (ACPI 6.4, section 5.2.11).
 use Rattle.std.specs.Prelude.{◌≡◌, ℕ, ◌==◌, ◌&&◌, Bool, not, List, drop, length, Result, bytes_eq}
-use Rattle.acpi_writer.specs.Table.{IsTableOf, IsValid, table_written}
+use Rattle.acpi_table_writer.specs.Words.{IsTableOf, IsValid, table_written}
 use Rattle.acpi_writer.specs.Types.{field_of, filled_part, letters_of, ◌>>=◌, holds, Signature, DSDT, SSDT, WriterError, HasHeader, TableIds}
 
 -- whether bytes are a table, as a compiler of AML writes it, and not the AML after its header: they begin with

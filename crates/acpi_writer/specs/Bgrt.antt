@@ -2,8 +2,7 @@
 use Rattle.std.specs.Prelude.{◌≡◌, ℕ, ◌+◌, ◌*◌, List, [], ◌∷◌, Result, All}
 use Rattle.acpi.specs.Types.{Bgrt}
 use Rattle.acpi_fixed.specs.Words.{offset_of}
-use Rattle.acpi_writer.specs.Fields.{FitsField, fields_bytes}
-use Rattle.acpi_writer.specs.Table.{IsTableOf, IsValid, bit_of, table_written}
+use Rattle.acpi_table_writer.specs.Words.{FitsField, fields_bytes, IsTableOf, IsValid, bit_of, table_written}
 use Rattle.acpi_writer.specs.Types.{bits_of, has_bit, BGRT, Bitmap, bgrt_at, image_type_of, status_of, BgrtContents, BgrtOrientation, WriterError, TableIds, Field, U8, U16, U32, U64}
 use Rattle.acpi_writer.specs.declared.bgrt.BgrtOrientation.TheVariants as orientations
 

@@ -1,24 +1,13 @@
 -- The bytes of a table that an XSDT can list, by its contents.
-use Rattle.std.specs.Prelude.{ℕ, ◌-◌, ◌^◌, ◌<◌, List, [], length, Result, Ok, Err, All}
+use Rattle.std.specs.Prelude.{ℕ, ◌^◌, ◌<◌, List, Result, All}
 use Rattle.acpi_writer.specs.Aml.{aml_written}
 use Rattle.acpi_writer.specs.Bgrt.{FitsBgrt, bgrt_written}
 use Rattle.acpi_writer.specs.Fadt.{fadt_written, FitsFadt}
-use Rattle.acpi_writer.specs.GicMadt.{AreGicFit, gic_written}
-use Rattle.acpi_writer.specs.Gtdt.{AreTimersFit, gtdt_written}
-use Rattle.acpi_writer.specs.Hpet.{hpet_written, FitsHpet}
+use Rattle.acpi_table_writer.specs.Words.{most, or_none, AreGicFit, gic_written, AreTimersFit, gtdt_written, hpet_written, FitsHpet, madt_written, AreFit, mcfg_written, FitsMcfg, slit_written, srat_written}
 use Rattle.acpi_writer.specs.Laid.{padded}
-use Rattle.acpi_writer.specs.MadtBytes.{madt_written}
-use Rattle.acpi_writer.specs.MadtLaws.{AreFit}
-use Rattle.acpi_writer.specs.Mcfg.{mcfg_written, FitsMcfg}
-use Rattle.acpi_writer.specs.Slit.{slit_written}
 use Rattle.acpi_writer.specs.Spcr.{spcr_written, FitsSpcr}
-use Rattle.acpi_writer.specs.Srat.{srat_written}
-use Rattle.acpi_writer.specs.Srat as srat
+use Rattle.acpi_table_writer.specs.Srat as srat
 use Rattle.acpi_writer.specs.Types.{Signature, BGRT, FADT, GTDT, HPET, MADT, MCFG, SLIT, SPCR, SRAT, SSDT, TableContents, Bgrt, Fadt, GicMadt, Gtdt, Hpet, Madt, Mcfg, Slit, Spcr, Srat, Ssdt, WriterError, TableIds}
-
--- all the room that a slice can have
-abbrev pub most : ℕ
-most = 2 ^ 64 - 1
 
 -- the table, or the first error
 abbrev pub contents_written : TableIds → TableContents → Result (List ℕ) WriterError
@@ -60,16 +49,6 @@ signature_of (Spcr c) = SPCR
 signature_of (Bgrt c) = BGRT
 signature_of (Gtdt c) = GTDT
 signature_of (GicMadt c) = MADT
-
--- how many bytes they are, or the error
-abbrev pub sized : Result (List ℕ) WriterError → Result ℕ WriterError
-sized (Ok table) = Ok (length table)
-sized (Err e) = Err e
-
--- the bytes, or none
-abbrev pub or_none : Result (List ℕ) WriterError → List ℕ
-or_none (Ok table) = table
-or_none (Err e) = []
 
 -- how things of a type are written as tables: with these ids, or the first error
 abbrev pub Written : Type 0 → Type 0

@@ -1,7 +1,7 @@
 -- The FACS that is written (ACPI 6.4, section 5.2.10).
 use Rattle.std.specs.Prelude.{◌≡◌, ℕ, ◌+◌, ◌*◌, ◌^◌, ◌<◌, List, ◌∷◌, ◌++◌, nat_le, replicate, take, Some, Result, Ok}
 use Rattle.acpi.specs.Words.{facs_at}
-use Rattle.acpi_writer.specs.Table.{bit_of}
+use Rattle.acpi_table_writer.specs.Words.{bit_of}
 use Rattle.acpi_writer.specs.Types.{range, has_bit, field_of, spelling, Memory, at, ◌>>=◌, holds, letters_of, FACS, WriterError, NoRoom, FacsContents}
 
 -- at 0 Signature, 4 a Length of 64, 8 Hardware Signature, 12 Firmware Waking Vector, 16 a Global Lock of 0, 20 Flags,

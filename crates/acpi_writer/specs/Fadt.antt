@@ -1,10 +1,7 @@
 -- The bytes of a FADT with given contents (ACPI 6.4, section 5.2.9).
 use Rattle.std.specs.Prelude.{ℕ, ◌*◌, ◌/◌, ◌^◌, ◌==◌, ◌&&◌, Bool, true, false, not, if◌then◌else◌, List, [], ◌∷◌, ◌++◌, flat_map, nat_le, nat_lt, replicate, Option, Some, None, Result, ◌≡◌, Ok, All, ok_or, option_map}
 use Rattle.acpi.specs.Types.{Fadt}
-use Rattle.acpi_writer.specs.Fields.{fields_bytes, FitsField}
-use Rattle.acpi_writer.specs.Flags.{flag_number, flag_at}
-use Rattle.acpi_writer.specs.Generic.{is_register, register_bytes, register_or_zeros, FitsRegister}
-use Rattle.acpi_writer.specs.Table.{table_written, IsTableOf, IsValid}
+use Rattle.acpi_table_writer.specs.Words.{fields_bytes, FitsField, flag_number, flag_at, is_register, register_bytes, register_or_zeros, FitsRegister, table_written, IsTableOf, IsValid}
 use Rattle.acpi_writer.specs.Types.{list_all, ◌>>=◌, holds, generic_address_of, has_bit, Undefined, AddressSpace, SystemIo, GenericAddress, FADT, GpeBlock, InvalidFacsAddress, is_profile, profile_code, dsdt_address_of, facs_address_of, fadt_at, pm_timer_of, profile_of, registers_of, arm_bits, feature_bits, pc_bits, gpe_of, block_of, optional_block_of, register_of, WriterError, BadProfile, BadRegister, NoAddress, FadtContents, FadtHardware, Fixed, Reduced, FixedHardware, ArmBootFeatures, FixedFeatures, PcBootFeatures, TableIds, PmTimer, LegacyFields, timer_of, Field, U8, U16, U32, U64, Zeros}
 
 -- ---- the values of fields
@@ -57,6 +54,10 @@ gpe_length None = 0
 abbrev pub bytes_wide : Option GenericAddress → ℕ
 bytes_wide o = (register_or_zeros o).bit_width / 8
 
+-- PM_TMR_LEN: the bytes of the timer, if there is one
+abbrev pub timer_length : Option GenericAddress → ℕ
+timer_length o = if is_given o then 4 else 0
+
 -- an address, if a field of 32 bits has a place for it, else 0
 abbrev pub narrow : ℕ → ℕ
 narrow a = if nat_lt a (2 ^ 32) then a else 0
@@ -106,6 +107,9 @@ flags_with f reset reduced =
 abbrev pub feature_flags : FadtContents → List Bool
 feature_flags c = flags_with c.features (is_given c.reset_register) (is_reduced c.hardware)
 
+abbrev pub feature_number : FadtContents → ℕ
+feature_number c = flag_number (feature_flags c)
+
 -- IAPC_BOOT_ARCH
 abbrev pub pc_flags : PcBootFeatures → List Bool
 pc_flags p =
@@ -119,11 +123,14 @@ pc_flags p =
 
 -- ARM_BOOT_ARCH
 abbrev pub arm_flags : ArmBootFeatures → List Bool
-arm_flags a = a.implements_psci ∷ a.use_hvc_as_psci_conduit ∷ []  -- PSCI_COMPLIANT, PSCI_USE_HVC
+arm_flags a =
+    a.implements_psci  -- PSCI_COMPLIANT
+    ∷ a.use_hvc_as_psci_conduit  -- PSCI_USE_HVC
+    ∷ []
 
 -- ---- the fields after the header
 
--- before RESET_REG
+-- the fields before RESET_REG
 unfoldable pub front_fields : FadtContents → FixedHardware → List Field
 front_fields c h =
     U32 (narrow (address_or_zero c.facs)) ∷ U32 (narrow c.dsdt)  -- 36: FIRMWARE_CTRL, 40: DSDT
@@ -136,7 +143,7 @@ front_fields c h =
     ∷ U32 (port_of h.pm2_control) ∷ U32 (port_of h.pm_timer)  -- 72: PM2_CNT_BLK, 76: PM_TMR_BLK
     ∷ U32 (port_of (gpe_register h.gpe0)) ∷ U32 (port_of (gpe_register h.gpe1))  -- 80: GPE0_BLK, 84: GPE1_BLK
     ∷ U8 (bytes_wide (Some h.pm1a_event)) ∷ U8 (bytes_wide (Some h.pm1a_control))  -- 88: PM1_EVT_LEN, 89: PM1_CNT_LEN
-    ∷ U8 (bytes_wide h.pm2_control) ∷ U8 (if is_given h.pm_timer then 4 else 0)  -- 90: PM2_CNT_LEN, 91: PM_TMR_LEN
+    ∷ U8 (bytes_wide h.pm2_control) ∷ U8 (timer_length h.pm_timer)  -- 90: PM2_CNT_LEN, 91: PM_TMR_LEN
     ∷ U8 (gpe_length h.gpe0) ∷ U8 (gpe_length h.gpe1)  -- 92: GPE0_BLK_LEN, 93: GPE1_BLK_LEN
     ∷ U8 h.gpe1_base ∷ U8 h.c_state_control  -- 94: GPE1_BASE, 95: CST_CNT
     ∷ U16 c.legacy.worst_c2_latency ∷ U16 c.legacy.worst_c3_latency  -- 96: P_LVL2_LAT, 98: P_LVL3_LAT
@@ -144,10 +151,10 @@ front_fields c h =
     ∷ U8 c.legacy.duty_offset ∷ U8 c.legacy.duty_width  -- 104: DUTY_OFFSET, 105: DUTY_WIDTH
     ∷ U8 c.legacy.day_alarm ∷ U8 c.legacy.month_alarm  -- 106: DAY_ALRM, 107: MON_ALRM
     ∷ U8 c.legacy.century ∷ U16 (flag_number (pc_flags c.pc_boot))  -- 108: CENTURY, 109: IAPC_BOOT_ARCH
-    ∷ Zeros 1 ∷ U32 (flag_number (feature_flags c))  -- 111: Reserved, 112: Flags
+    ∷ Zeros 1 ∷ U32 (feature_number c)  -- 111: Reserved, 112: Flags
     ∷ []
 
--- between RESET_REG, at 116, and the registers
+-- the fields between RESET_REG, at 116, and the registers
 unfoldable pub wide_fields : FadtContents → List Field
 wide_fields c =
     U8 c.reset_value ∷ U16 (flag_number (arm_flags c.arm_boot))  -- 128: RESET_VALUE, 129: ARM_BOOT_ARCH

@@ -1,14 +1,8 @@
 -- What a reader finds in an image by `write_image` that has a table that was written.
-use Rattle.std.specs.Prelude.{◌≡◌, ℕ, Bool, false, List, ◌∷◌, ◌++◌, Ok, bytes_eq}
-use Rattle.acpi_writer.specs.Types.{AllByRecursion, IsBytes, part, Memory, letters_of, Apic, Signature, HPET, MADT, MCFG, McfgEntry, hpet_of, found_regions, model_in, platform_of, HpetInfo, PlatformInfo, TableIds, MadtContents, written, Plan, records_of}
+use Rattle.std.specs.Prelude.{◌≡◌, ℕ, false, List, ◌∷◌, ◌++◌, Ok}
+use Rattle.acpi_writer.specs.Types.{AllByRecursion, IsBytes, Memory, Apic, Signature, HPET, MADT, MCFG, McfgEntry, hpet_of, found_regions, model_in, platform_of, HpetInfo, PlatformInfo, TableIds, MadtContents, written, Plan, records_of}
 use Rattle.acpi_image.specs.Words.{pointers_of}
-use Rattle.acpi_writer.specs.Hpet.{IsHpet}
-use Rattle.acpi_writer.specs.MadtLaws.{IsMadt, apic_read, model_read, processors_read}
-use Rattle.acpi_writer.specs.Mcfg.{IsMcfg}
-
--- the bytes begin with this signature
-abbrev pub is_named : Signature → List ℕ → Bool
-is_named s table = bytes_eq (part table 0 4) (letters_of s)
+use Rattle.acpi_table_writer.specs.Words.{is_named, IsHpet, IsMadt, apic_read, model_read, processors_read, IsMcfg}
 
 -- the plan is written, and has this table, and none of its signature before it
 pub record HasFirst (s : Signature) (p : Plan) (table : List ℕ) : Type 0 where

@@ -3,12 +3,12 @@
 use Rattle.std.specs.Prelude.{◌≡◌, ℕ, ◌+◌, ◌-◌, ◌*◌, ◌^◌, ◌%◌, ◌<◌, ◌==◌, ◌&&◌, Bool, true, not, if◌then◌else◌, List, [], ◌∷◌, ◌++◌, length, map, nat_le, nat_lt, replicate, Option, Some, None, Result, Ok, All}
 use Rattle.acpi_writer.specs.Types.{Xsdt, AmlContents, TableContents, WriterError, BadName, NoAddress, NoRoom, TooLong, FacsContents, TableIds, ◌>>=◌, holds, DSDT, XSDT}
 use Rattle.acpi_writer.specs.Aml.{aml_written}
-use Rattle.acpi_writer.specs.Contents.{Written, bytes_by, contents_written, most, or_none}
+use Rattle.acpi_writer.specs.Contents.{Written, bytes_by, contents_written}
+use Rattle.acpi_table_writer.specs.Words.{most, or_none, AreIds, are_texts, table_bytes}
 use Rattle.acpi_writer.specs.Facs.{FitsFacs, facs_bytes}
 use Rattle.acpi_writer.specs.Laid.{addresses, laid, padded, rounded}
 use Rattle.acpi_writer.specs.Root.{root_body}
 use Rattle.acpi_writer.specs.Rsdp.{rsdp_bytes}
-use Rattle.acpi_writer.specs.Table.{AreIds, are_texts, table_bytes}
 use Rattle.acpi_writer.specs.declared.machine.Machine as declared
 
 -- a machine of things of a type, and one of contents

@@ -11,22 +11,18 @@
 --     GIC are exactly those that were passed in; and the DSDT is valid at its address.
 use Rattle.std.specs.Prelude.{◌≡◌, ℕ, ◌+◌, ◌*◌, ◌%◌, ◌<◌, ◌≤◌, ◌&&◌, List, [], ◌∷◌, length, drop, nat_le, slice_get, if◌then◌else◌, Option, Some, None, Result, Ok, Err, bytes_eq}
 use Rattle.acpi.specs.Places as places
-use Rattle.acpi_writer.specs.Types.{AllByRecursion, hpet_of, dsdt_stream, fadt_kind, stream_of, lookup, opened_by_rsdp, found_regions, facs_place, led_by, range, model_in, platform_of, pointers, rsdp_at, PlatformInfo, Xsdt, AmlContents, TableContents, Bgrt, Fadt, GicMadt, Gtdt, Hpet, Madt, Mcfg, Slit, Spcr, Srat, FacsContents, FadtContents, TableIds, MadtContents, Memory, IsMemory, at, ◌>>=◌, Kind, plain_kind, sdt_kind, table_at, letters_of, AcpiError, TableMissing, Signature, BGRT, DSDT, FADT, GTDT, HPET, MADT, MCFG, SLIT, SPCR, SRAT, Apic, found_gic, gtdt_kind, bgrt_at, fadt_at, srat_kind, distance_of}
+use Rattle.acpi_writer.specs.Types.{AllByRecursion, hpet_of, dsdt_stream, fadt_kind, stream_of, lookup, opened_by_rsdp, found_regions, facs_place, by_first_fadt, range, model_in, platform_of, pointers, rsdp_at, PlatformInfo, Xsdt, AmlContents, TableContents, Bgrt, Fadt, GicMadt, Gtdt, Hpet, Madt, Mcfg, Slit, Spcr, Srat, FacsContents, FadtContents, TableIds, MadtContents, Memory, IsMemory, at, ◌>>=◌, Kind, plain_kind, sdt_kind, table_at, letters_of, AcpiError, TableMissing, Signature, BGRT, DSDT, FADT, GTDT, HPET, MADT, MCFG, SLIT, SPCR, SRAT, Apic, found_gic, gtdt_kind, bgrt_at, fadt_at, srat_kind, distance_of}
 use Rattle.acpi_writer.specs.Bgrt.{SaysImage}
 use Rattle.acpi_writer.specs.Contents.{FitsContents, bytes_of, contents_written, placed, signature_of}
 use Rattle.acpi_writer.specs.Facs as structure
 use Rattle.acpi_writer.specs.Facs.{facs_bytes}
 use Rattle.acpi_writer.specs.Fadt.{IsReadAs, timer_read}
-use Rattle.acpi_writer.specs.GicMadt.{gic_read}
-use Rattle.acpi_writer.specs.Gtdt.{SaysTimers}
-use Rattle.acpi_writer.specs.ImageLaws.{HasPlatform, is_named}
+use Rattle.acpi_table_writer.specs.Words.{gic_read, SaysTimers, is_named, apic_read, model_read, processors_read, SaysDomains, IsValid}
+use Rattle.acpi_writer.specs.ImageLaws.{HasPlatform}
 use Rattle.acpi_writer.specs.Laid.{addresses, laid, padded}
 use Rattle.acpi_writer.specs.Machine.{CanLie, Machine, dsdt_address, dsdt_at, dsdt_of, facs_address, facs_at, machine_bytes, pointers_of, tables_address, tree_bytes, tree_size, xsdt_bytes}
-use Rattle.acpi_writer.specs.MadtLaws.{apic_read, model_read, processors_read}
 use Rattle.acpi_writer.specs.Rsdp.{rsdp_bytes}
 use Rattle.acpi_writer.specs.Spcr.{SaysConsole}
-use Rattle.acpi_writer.specs.Srat.{SaysDomains}
-use Rattle.acpi_writer.specs.Table.{IsValid}
 
 -- ---- any valid tables, laid one after the other
 
@@ -85,9 +81,10 @@ pub record IsOpened (m : Memory) (rsdp a : ℕ) (x : Machine) : Type 0 where
       ≡ Ok (place_of x.ids s (tables_address a x) x.tables.now, bytes_of x.ids c)
   -- a FACS is read as it was passed in, and if the FADT has its address, it is found
   pub facs : (f : FacsContents) → x.facs ≡ Some f → HasFacs m (facs_address a x) f
-  pub led_to : (c : FadtContents) (f : FacsContents) → first_of FADT x.tables.now ≡ Some (Fadt c) → x.facs ≡ Some f
+  pub facs_is_found : (c : FadtContents) (f : FacsContents) → first_of FADT x.tables.now ≡ Some (Fadt c) → x.facs
+      ≡ Some f
       → c.facs ≡ Some (facs_address a x)
-      → led_by facs_place m (pointers_of a x) ≡ Ok (range (facs_address a x) 64)
+      → by_first_fadt facs_place m (pointers_of a x) ≡ Ok (range (facs_address a x) 64)
   pub dsdt : (d : AmlContents) → x.dsdt ≡ Some d
       → table_at m (plain_kind DSDT) (dsdt_address a x) ≡ Ok (dsdt_of x)
   -- if the FADT has its address, its AML is found

@@ -2,7 +2,7 @@
 use Rattle.std.specs.Prelude.{◌≡◌, ℕ, ◌^◌, ◌<◌, List, drop, flat_map, Result, All}
 use Rattle.acpi.specs.Words.{signature_of}
 use Rattle.acpi_writer.specs.Types.{pointers, width_of, RootKind, WriterError, TableIds, spelling}
-use Rattle.acpi_writer.specs.Table.{IsTableOf, IsValid, table_written}
+use Rattle.acpi_table_writer.specs.Words.{IsTableOf, IsValid, table_written}
 
 -- after the header: Entry, the addresses in order
 abbrev pub root_body : RootKind → List ℕ → List ℕ

@@ -1,7 +1,7 @@
 -- The RSDP that is written (ACPI 6.4, section 5.2.5.3).
 use Rattle.std.specs.Prelude.{◌≡◌, ℕ, ◌^◌, ◌<◌, ◌==◌, false, true, not, List, nat_le, Result, Ok}
 use Rattle.acpi_writer.specs.Types.{root_pointer, check_rsdp, root_of_rsdp, rsdp_of, Xsdt, WriterError, BadName, NoAddress, NoRoom, TableIds, ◌>>=◌, holds, rsdp_to}
-use Rattle.acpi_writer.specs.Table.{AreIds, are_texts}
+use Rattle.acpi_table_writer.specs.Words.{AreIds, are_texts}
 
 -- the RSDP of revision 2 that leads to the XSDT at an address
 unfoldable pub rsdp_bytes : List ℕ → ℕ → List ℕ

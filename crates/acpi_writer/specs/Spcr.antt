@@ -1,9 +1,7 @@
 -- The bytes of an SPCR with given contents (ACPI 6.4, section 5.2.6). The layout is Microsoft's.
 use Rattle.std.specs.Prelude.{ℕ, ◌+◌, ◌%◌, ◌^◌, ◌==◌, ◌&&◌, Bool, true, not, if◌then◌else◌, List, [], ◌∷◌, ◌++◌, length, nat_lt, Option, Some, None, Result, ◌≡◌, IsUtf8, Ok, All, option_map}
 use Rattle.acpi.specs.Types.{Spcr}
-use Rattle.acpi_writer.specs.Fields.{fields_bytes, FitsField}
-use Rattle.acpi_writer.specs.Generic.{register_or_zeros}
-use Rattle.acpi_writer.specs.Table.{table_written, IsTableOf, IsValid}
+use Rattle.acpi_table_writer.specs.Words.{fields_bytes, FitsField, register_or_zeros, table_written, IsTableOf, IsValid}
 use Rattle.acpi_writer.specs.Types.{interface_code, is_interface, is_named_space, size_code, space_code, flow_bits, interrupt_bits, terminal_bits, ◌>>=◌, holds, bits_of, has_bit, baud_of, bus_of, clock_of, device_id_of, device_of, flow_byte, function_of, interface_in, interrupt_byte, interrupt_of, irq_of, namespace_of, spcr_at, terminal_byte, unless, vendor_id_of, GenericAddress, SPCR, AcpiError, WriterError, BadCode, LongName, NoAddress, TableIds, SpcrContents, SpcrPciDevice, Field, U8, U16, U32, U64, Zeros}
 use Rattle.acpi_base.specs.Spcr.{base_of}
 
@@ -29,6 +27,10 @@ irq_written c = if has_bit (interrupt_bits c.interrupt_type) 0 then c.irq else 0
 abbrev pub interrupt_written : SpcrContents → ℕ
 interrupt_written c = if bits_of (interrupt_bits c.interrupt_type) 1 4 == 0 then 0 else c.global_system_interrupt
 
+-- NamespaceStringLength: with the zero that ends the name
+abbrev pub name_length : SpcrContents → ℕ
+name_length c = (length c.namespace_string.now + 1) % 2 ^ 16
+
 -- the fixed fields, with this base address and PCI device
 unfoldable pub fixed_list : SpcrContents → GenericAddress → SpcrPciDevice → List Field
 fixed_list c a d =
@@ -43,7 +45,7 @@ fixed_list c a d =
     ∷ U8 d.bus ∷ U8 d.device ∷ U8 d.function  -- 68: PCI Bus Number, 69: PCI Device Number, 70: PCI Function Number
     ∷ U32 d.flags ∷ U8 d.segment  -- 71: PCI Flags, 75: PCI Segment
     ∷ U32 c.uart_clock_frequency ∷ U32 c.baud_rate  -- 76: UART Clock Frequency, 80: Precise Baud Rate
-    ∷ U16 ((length c.namespace_string.now + 1) % 2 ^ 16)  -- 84: NamespaceStringLength
+    ∷ U16 (name_length c)  -- 84: NamespaceStringLength
     ∷ U16 88  -- 86: NamespaceStringOffset
     ∷ []
 

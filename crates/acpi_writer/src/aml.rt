@@ -2,14 +2,14 @@
 ghost use Rattle.std.specs.Prelude.{◌≡◌, length, take, IfOk};
 ghost use Rattle.acpi_writer.specs.Words.{Gives, DSDT, SSDT, IsTableOf, Keeps, aml_checked, aml_written, has_header};
 
-use crate::checked::require;
 use crate::contents::AmlContents;
-use crate::error::WriterError;
-use crate::ids::TableIds;
-use crate::spelled::Bytes;
-use crate::table::{Table, write};
 use acpi_base::Signature;
 use acpi_base::bytes::{field, filled};
+use acpi_table_writer::checked::require;
+use acpi_table_writer::error::WriterError;
+use acpi_table_writer::ids::TableIds;
+use acpi_table_writer::spelled::Bytes;
+use acpi_table_writer::table::{Table, write};
 
 /// Writes a DSDT to the front of a slice, and returns how many bytes it has: 36, and the AML bytes. By a revision of 1
 /// AML's integers have 32 bits, by one of 2 they have 64.

@@ -3,12 +3,11 @@ ghost use Rattle.std.specs.Prelude.{◌≡◌, ◌≤◌, length, take, IfOk, Ok
 ghost use Rattle.acpi_writer.specs.Bgrt as bgrt;
 ghost use Rattle.acpi_writer.specs.Words.{BGRT, Gives, Keeps};
 
-use crate::error::WriterError;
-use crate::fields::{Field, Record};
-use crate::ids::TableIds;
-use crate::numbers::bit_of;
-use crate::table::{Table, write};
 use acpi_base::Signature;
+use acpi_table_writer::error::WriterError;
+use acpi_table_writer::ids::TableIds;
+use acpi_table_writer::numbers::bit_of;
+use acpi_table_writer::table::{Table, write};
 
 /// Orientation Offset: by how many degrees an image was turned clockwise before it was drawn (section 5.2.22).
 #[derive(Clone, Copy)]
@@ -51,29 +50,10 @@ fn orientation_code(orientation: BgrtOrientation) -> u8
 }
 
 /// The byte Status.
-fn status_of(contents: &BgrtContents) -> u8
+pub(crate) fn status_of(contents: &BgrtContents) -> u8
     ensures { result ≡ bgrt.status_written contents.now }
 {
     bit_of(contents.was_displayed) + 2 * orientation_code(contents.orientation_offset)
-}
-
-impl Record for BgrtContents {
-    type Fields = [Field; 6];
-
-    ghost fields_of = { bgrt.bgrt_fields };
-
-    #[tactic(auto, unfolding(crate::specs::Bgrt::bgrt_fields))]
-    fn fields(&self) -> [Field; 6] {
-        let (x, y) = self.image_offset;
-        [
-            Field::U16(1),
-            Field::U8(status_of(self)),
-            Field::U8(0),
-            Field::U64(self.image_address),
-            Field::U32(x),
-            Field::U32(y),
-        ]
-    }
 }
 
 impl Table for BgrtContents {

@@ -1,22 +1,22 @@
 //! The tables that an XSDT can list, each from its contents.
-ghost use Rattle.std.specs.Prelude.{◌≡◌, ◌+◌, ◌^◌, ◌<◌, ◌≤◌, ◌++◌, length, take, drop, replicate};
-ghost use Rattle.acpi_writer.specs.Words.{FitsContents, contents_written, gap, rounded};
+ghost use Rattle.acpi_writer.specs.Words.{FitsContents, contents_written};
 
 use crate::aml::Aml;
 use crate::bgrt::BgrtContents;
-use crate::error::WriterError;
 use crate::fadt::FadtContents;
-use crate::gtdt::GtdtContents;
-use crate::ids::TableIds;
-use crate::listed::Listed;
-use crate::madt::MadtContents;
-use crate::madt::gic::GicContents;
-use crate::mcfg::Regions;
 use crate::spcr::SpcrContents;
-use crate::srat::SratContents;
 use acpi::HpetInfo;
 use acpi_base::Signature;
 use acpi_base::mcfg::McfgEntry;
+pub use acpi_table_writer::contents::SlitContents;
+use acpi_table_writer::error::WriterError;
+use acpi_table_writer::gtdt::GtdtContents;
+use acpi_table_writer::ids::TableIds;
+use acpi_table_writer::listed::Listed;
+use acpi_table_writer::madt::MadtContents;
+use acpi_table_writer::madt::gic::GicContents;
+use acpi_table_writer::mcfg::Regions;
+use acpi_table_writer::srat::SratContents;
 
 /// What a table of AML is to have after its header (section 5.2.11).
 #[derive(Clone, Copy)]
@@ -25,15 +25,6 @@ pub struct AmlContents<'a> {
     pub revision: u8,
     /// The AML bytes, taken as they are.
     pub bytes: &'a [u8],
-}
-
-/// The contents of a SLIT (section 5.2.17).
-#[derive(Clone, Copy)]
-pub struct SlitContents<'a> {
-    /// Number of System Localities.
-    pub localities: u64,
-    /// The distances, row by row: those from the first locality come first.
-    pub distances: &'a [u8],
 }
 
 /// A table that an XSDT can list, with its contents. Each is written as the function of its name writes it.
@@ -63,31 +54,12 @@ pub enum TableContents<'a> {
     GicMadt(GicContents<'a>),
 }
 
-/// The least multiple of 16 that isn't below a number.
-pub(crate) fn rounded(n: usize) -> usize
-    requires { n < 2 ^ 63 }
-    ensures { result ≡ rounded n }
-{
-    n + (15 - (n + 15) % 16)
-}
-
-/// Puts zeros after this number of bytes, up to a multiple of 16, which it returns.
-pub(crate) fn fill_up(out: &mut [u8], size: usize) -> usize
-    requires { rounded size ≤ length out.old }
-    ensures bytes { out.new ≡ take size out.old ++ (replicate (gap size) 0 ++ drop (rounded size) out.old) }
-    ensures size { result ≡ rounded size }
-{
-    let end = rounded(size);
-    out[size..end].fill(0);
-    end
-}
-
 impl Listed for TableContents<'_> {
     ghost written = { contents_written };
 
     ghost fits = { FitsContents };
 
-    #[tactic(auto, using(crate::proofs::Sized::itself), unfolding(crate::specs::Fadt::fadt_written, crate::specs::GicMadt::gic_written, crate::specs::Gtdt::gtdt_written_by, crate::specs::MadtBytes::madt_written, crate::specs::Slit::slit_written, crate::specs::Spcr::spcr_written, crate::specs::Srat::srat_written))]
+    #[tactic(auto, using(acpi_table_writer::proofs::Sized::itself), unfolding(crate::specs::Fadt::fadt_written, acpi_table_writer::specs::GicMadt::gic_written, acpi_table_writer::specs::Gtdt::gtdt_written_by, acpi_table_writer::specs::MadtBytes::madt_written, acpi_table_writer::specs::Slit::slit_written, crate::specs::Spcr::spcr_written, acpi_table_writer::specs::Srat::srat_written))]
     fn size(&self, ids: &TableIds) -> Result<usize, WriterError> {
         match self {
             TableContents::Madt(contents) => contents.size(ids),
@@ -104,7 +76,7 @@ impl Listed for TableContents<'_> {
         }
     }
 
-    #[tactic(auto, using(crate::proofs::Sized::itself), unfolding(crate::specs::Fadt::fadt_written, crate::specs::GicMadt::gic_written, crate::specs::Gtdt::gtdt_written_by, crate::specs::MadtBytes::madt_written, crate::specs::Slit::slit_written, crate::specs::Spcr::spcr_written, crate::specs::Srat::srat_written))]
+    #[tactic(auto, using(acpi_table_writer::proofs::Sized::itself), unfolding(crate::specs::Fadt::fadt_written, acpi_table_writer::specs::GicMadt::gic_written, acpi_table_writer::specs::Gtdt::gtdt_written_by, acpi_table_writer::specs::MadtBytes::madt_written, acpi_table_writer::specs::Slit::slit_written, crate::specs::Spcr::spcr_written, acpi_table_writer::specs::Srat::srat_written))]
     fn put(&self, out: &mut [u8], ids: &TableIds) {
         match self {
             TableContents::Madt(contents) => contents.put(out, ids),

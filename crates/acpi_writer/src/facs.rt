@@ -3,9 +3,9 @@ ghost use Rattle.std.specs.Prelude.{◌≡◌, length, take, IfOk};
 ghost use Rattle.acpi_writer.specs.Facs as facs;
 ghost use Rattle.acpi_writer.specs.Words.{Gives, Keeps};
 
-use crate::error::WriterError;
-use crate::numbers::{bit_of, dword, qword};
 use crate::rsdp::write_front;
+use acpi_table_writer::error::WriterError;
+use acpi_table_writer::numbers::{bit_of, dword, qword};
 
 /// The contents of a FACS (section 5.2.10).
 #[derive(Clone, Copy)]
@@ -23,7 +23,7 @@ pub struct FacsContents {
 }
 
 /// A FACS of version 2.
-#[tactic(auto, unfolding(crate::specs::Facs::facs_bytes, acpi_base::specs::Bytes::spelling))]
+#[tactic(auto, unfolding(crate::specs::Facs::facs_bytes, acpi_bytes::specs::Bytes::spelling))]
 pub(crate) fn facs_bytes(contents: &FacsContents) -> [u8; 64]
     ensures bytes { result ≡ facs.facs_bytes contents.now }
     ensures fits { facs.FitsFacs contents.now }

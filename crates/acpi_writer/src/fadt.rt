@@ -5,18 +5,18 @@ ghost use Rattle.acpi_writer.specs.Fadt as bytes;
 
 mod contents;
 mod features;
-mod parts;
+pub(crate) mod parts;
 
-use crate::checked::require;
-use crate::error::WriterError;
-use crate::fields::Field;
-use crate::generic::is_register;
-use crate::ids::TableIds;
-use crate::spelled::Then;
-use crate::table::{Table, write};
 use acpi_base::Signature;
 use acpi_base::address::GenericAddress;
 use acpi_fixed::fadt::PowerProfile;
+use acpi_table_writer::checked::require;
+use acpi_table_writer::error::WriterError;
+use acpi_table_writer::fields::Field;
+use acpi_table_writer::generic::is_register;
+use acpi_table_writer::ids::TableIds;
+use acpi_table_writer::spelled::Then;
+use acpi_table_writer::table::{Table, write};
 pub use contents::{FadtContents, FadtHardware, FixedHardware, LegacyFields};
 pub use features::{ArmBootFeatures, FixedFeatures, PcBootFeatures};
 use parts::{Front, Wide, WideRegisters, gpe_register};

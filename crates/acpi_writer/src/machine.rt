@@ -4,17 +4,18 @@ ghost use Rattle.acpi_writer.specs.Words.{spelling, Gives, bytes_by, addresses, 
 ghost use Rattle.acpi_writer.specs.Machine as whole;
 
 use crate::aml::Aml;
-use crate::checked::require;
-use crate::contents::{AmlContents, TableContents, rounded};
-use crate::error::WriterError;
+use crate::contents::{AmlContents, TableContents};
 use crate::facs::{FacsContents, facs_bytes};
-use crate::ids::TableIds;
-use crate::listed::{self, Listed};
-use crate::numbers::qword;
+use crate::placed::{self, rounded};
 use crate::rsdp::{put_front, rsdp_bytes};
-use crate::table::table_head;
 use acpi_base::Signature;
 use acpi_image::sums::set_sum;
+use acpi_table_writer::checked::require;
+use acpi_table_writer::error::WriterError;
+use acpi_table_writer::ids::TableIds;
+use acpi_table_writer::listed::Listed;
+use acpi_table_writer::numbers::qword;
+use acpi_table_writer::table::table_head;
 
 /// A machine, as its tables describe it.
 #[derive(Clone, Copy)]
@@ -102,7 +103,7 @@ fn dsdt_place<T>(machine: &Machine<'_, T>) -> usize
     ensures short { result ≤ 2 ^ 32 }
 {
     match machine.dsdt {
-        Some(dsdt) => listed::place(&Aml(Signature::DSDT, dsdt), &machine.ids),
+        Some(dsdt) => placed::place(&Aml(Signature::DSDT, dsdt), &machine.ids),
         None => 0,
     }
 }
@@ -153,7 +154,7 @@ fn put_addresses<T: Listed>(out: &mut [u8], start: u64, ids: &TableIds, tables: 
     let mut at = 0;
     for table in tables {
         out[at..at + 8].copy_from_slice(&qword(place));
-        place += listed::place(table, ids) as u64;
+        place += placed::place(table, ids) as u64;
         at += 8;
     }
 }
@@ -165,7 +166,7 @@ fn put_listed<T: Listed>(out: &mut [u8], ids: &TableIds, tables: &[T])
 {
     let mut at = 0;
     for table in tables {
-        at += listed::put(table, &mut out[at..], ids);
+        at += placed::put(table, &mut out[at..], ids);
     }
 }
 
@@ -175,7 +176,7 @@ fn put_dsdt<T>(out: &mut [u8], machine: &Machine<'_, T>)
     ensures { out.new ≡ padded (whole.dsdt_of machine.now) }
 {
     if let Some(dsdt) = machine.dsdt {
-        listed::put(&Aml(Signature::DSDT, dsdt), out, &machine.ids);
+        placed::put(&Aml(Signature::DSDT, dsdt), out, &machine.ids);
     }
 }
 
@@ -202,7 +203,7 @@ fn put_pointers<T: Listed>(out: &mut [u8], head: &[u8], start: u64, machine: &Ma
 }
 
 /// Fills a slice with the XSDT of tables of which the first is at this address.
-#[tactic(auto, using(crate::proofs::Sized::root_long), unfolding(crate::specs::Table::table_bytes))]
+#[tactic(auto, using(crate::proofs::Sized::root_long), unfolding(acpi_table_writer::specs::Table::table_bytes))]
 fn fill_xsdt<T: Listed>(out: &mut [u8], start: u64, machine: &Machine<'_, T>)
     requires whole { length out.old ≡ whole.xsdt_length machine.now }
     requires short { whole.xsdt_length machine.now < 2 ^ 32 }

@@ -1,41 +1,12 @@
 //! The root tables: the RSDT (section 5.2.7) and the XSDT (section 5.2.8), from the addresses of the tables.
-ghost use Rattle.std.specs.Prelude.{◌≡◌, ◌^◌, ◌<◌, length, take, IfOk};
-ghost use Rattle.acpi_writer.specs.Words.{Rsdt, Xsdt, spelling, Gives, IsRoot, root_written, Keeps};
+ghost use Rattle.std.specs.Prelude.{◌≡◌, length, take, IfOk};
+ghost use Rattle.acpi_writer.specs.Words.{Rsdt, Xsdt, Gives, IsRoot, root_written, Keeps};
 
-use crate::error::WriterError;
-use crate::fields::Field;
-use crate::ids::TableIds;
-use crate::spelled::{Each, Spelled};
-use crate::table::write_table;
 use acpi_base::Signature;
-
-impl Spelled for u32 {
-    ghost spelled = { λ n. spelling 4 n };
-
-    ghost fits = { λ n. n < 256 ^ 4 };
-
-    fn measure(&self, room: usize) -> Option<usize> {
-        Field::U32(*self).measure(room)
-    }
-
-    fn put(&self, out: &mut [u8]) {
-        Field::U32(*self).put(out)
-    }
-}
-
-impl Spelled for u64 {
-    ghost spelled = { λ n. spelling 8 n };
-
-    ghost fits = { λ n. n < 256 ^ 8 };
-
-    fn measure(&self, room: usize) -> Option<usize> {
-        Field::U64(*self).measure(room)
-    }
-
-    fn put(&self, out: &mut [u8]) {
-        Field::U64(*self).put(out)
-    }
-}
+use acpi_table_writer::error::WriterError;
+use acpi_table_writer::ids::TableIds;
+use acpi_table_writer::spelled::Each;
+use acpi_table_writer::table::write_table;
 
 /// Writes an RSDT of revision 1 to the front of a slice, and returns how many bytes it has: 36, and 4 for each address.
 /// No address, and one of 0, are written as they are.

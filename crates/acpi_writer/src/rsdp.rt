@@ -3,9 +3,9 @@ ghost use Rattle.std.specs.Prelude.{◌≡◌, ◌+◌, ◌<◌, length, take, d
 ghost use Rattle.acpi_writer.specs.Rsdp as rsdp;
 ghost use Rattle.acpi_writer.specs.Words.{Gives, Keeps, front_written};
 
-use crate::error::WriterError;
-use crate::ids::TableIds;
 use acpi_image::sums::rsdp_to;
+use acpi_table_writer::error::WriterError;
+use acpi_table_writer::ids::TableIds;
 
 /// An RSDP of revision 2.
 #[tactic(auto, unfolding(crate::specs::Rsdp::rsdp_bytes))]

@@ -1,21 +1,21 @@
 //! The Serial Port Console Redirection Table (SPCR, section 5.2.6), from what it contains of a serial port. Its layout
 //! is Microsoft's.
-ghost use Rattle.std.specs.Prelude.{◌≡◌, ◌&&◌, length, take, IfOk, IsUtf8, ◌++◌, [], ◌∷◌};
+ghost use Rattle.std.specs.Prelude.{◌≡◌, ◌&&◌, length, take, IfOk};
 ghost use Rattle.acpi_writer.specs.Words.{Gives, is_interface, Keeps, SPCR};
 ghost use Rattle.acpi_writer.specs.Spcr as spcr;
 
-mod fields;
+pub(crate) mod fields;
 
-use crate::checked::require;
-use crate::error::WriterError;
-use crate::fields::Field;
-use crate::generic::is_named_space;
-use crate::ids::TableIds;
-use crate::spelled::{Bytes, Spelled, Then};
-use crate::table::{Table, write};
 use acpi_base::Signature;
 use acpi_base::address::GenericAddress;
 use acpi_base::spcr::{SpcrFlowControl, SpcrInterfaceType, SpcrInterruptType, SpcrTerminalType};
+use acpi_table_writer::checked::require;
+use acpi_table_writer::error::WriterError;
+use acpi_table_writer::generic::is_named_space;
+use acpi_table_writer::ids::TableIds;
+use acpi_table_writer::spelled::Then;
+use acpi_table_writer::table::{Table, write};
+use fields::Name;
 
 /// The PCI device that a serial port is, as an SPCR has it.
 #[derive(Clone, Copy)]
@@ -132,26 +132,6 @@ impl<'a> Table for SpcrContents<'a> {
 
     fn body(&self) -> Then<SpcrContents<'a>, Name<'a>> {
         Then(*self, Name(self.namespace_string))
-    }
-}
-
-/// NamespaceString, which a zero ends.
-#[derive(Clone, Copy)]
-pub(crate) struct Name<'a>(&'a str);
-
-impl Spelled for Name<'_> {
-    ghost spelled = { λ s. s.0.now ++ (0 ∷ []) };
-
-    ghost fits = { λ s. IsUtf8 s.0.now };
-
-    fn measure(&self, room: usize) -> Option<usize> {
-        let text = self.0.as_bytes();
-        let size = text.len() + 1;
-        if room < size { None } else { Some(size) }
-    }
-
-    fn put(&self, out: &mut [u8]) {
-        Then(Bytes(self.0.as_bytes()), Field::U8(0)).put(out);
     }
 }
 

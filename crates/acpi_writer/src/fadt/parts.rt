@@ -1,16 +1,16 @@
 //! The parts of a FADT, each with its bytes (section 5.2.9).
 ghost use Rattle.std.specs.Prelude.{◌≡◌, ◌<◌, ◌^◌, flat_map, All};
 ghost use Rattle.acpi_writer.specs.Fadt as bytes;
-ghost use Rattle.acpi_writer.specs.Words.{SystemIo, FitsRegister, flag_number, register_bytes};
+ghost use Rattle.acpi_writer.specs.Words.{SystemIo, FitsRegister, register_bytes};
 
 use super::contents::{FadtContents, FadtHardware, FixedHardware};
-use super::features::{ArmBootFeatures, PcBootFeatures};
-use crate::fields::{Field, Record};
-use crate::flags::flag_number;
-use crate::generic::register_or_zeros;
-use crate::spelled::{Each, Spelled};
+use crate::made::fadt::{flags_with, front_fields, wide_fields};
 use acpi_base::address::{AccessSize, AddressSpace, GenericAddress};
 use acpi_fixed::fadt::GpeBlock;
+use acpi_table_writer::fields::{Field, Record};
+use acpi_table_writer::flags::flag_number;
+use acpi_table_writer::generic::register_or_zeros;
+use acpi_table_writer::spelled::{Each, Spelled};
 
 /// The fixed hardware, with zeros throughout if there is none.
 fn fixed_of(hardware: &FadtHardware) -> FixedHardware
@@ -39,7 +39,7 @@ fn fixed_of(hardware: &FadtHardware) -> FixedHardware
 }
 
 /// A block of general purpose events, as a register.
-pub(super) fn gpe_register(block: Option<GpeBlock>) -> Option<GenericAddress>
+pub(crate) fn gpe_register(block: Option<GpeBlock>) -> Option<GenericAddress>
     ensures { result ≡ bytes.gpe_register block }
 {
     match block {
@@ -59,7 +59,7 @@ pub(super) fn gpe_register(block: Option<GpeBlock>) -> Option<GenericAddress>
 }
 
 /// The length of a block of general purpose events, in bytes.
-fn gpe_length(block: Option<GpeBlock>) -> u8
+pub(crate) fn gpe_length(block: Option<GpeBlock>) -> u8
     ensures { result ≡ bytes.gpe_length block }
 {
     match block {
@@ -69,14 +69,21 @@ fn gpe_length(block: Option<GpeBlock>) -> u8
 }
 
 /// The whole bytes of a register.
-fn bytes_wide(register: Option<GenericAddress>) -> u8
+pub(crate) fn bytes_wide(register: Option<GenericAddress>) -> u8
     ensures { result ≡ bytes.bytes_wide register }
 {
     register_or_zeros(register).bit_width / 8
 }
 
+/// The bytes of the timer, if there is one.
+pub(crate) fn timer_length(timer: Option<GenericAddress>) -> u8
+    ensures { result ≡ bytes.timer_length timer }
+{
+    if timer.is_some() { 4 } else { 0 }
+}
+
 /// An address, if a field of 32 bits has a place for it, else 0.
-fn narrow(address: u64) -> u32
+pub(crate) fn narrow(address: u64) -> u32
     ensures { result ≡ bytes.narrow address }
 {
     if address < 0x100000000 {
@@ -87,7 +94,7 @@ fn narrow(address: u64) -> u32
 }
 
 /// The port of a register, if it has one that a field of 32 bits has a place for, else 0.
-fn port_of(register: Option<GenericAddress>) -> u32
+pub(crate) fn port_of(register: Option<GenericAddress>) -> u32
     ensures { result ≡ bytes.port_of register }
 {
     match register {
@@ -100,34 +107,13 @@ fn port_of(register: Option<GenericAddress>) -> u32
 }
 
 /// An address, or 0.
-fn address_or_zero(address: Option<u64>) -> u64
+pub(crate) fn address_or_zero(address: Option<u64>) -> u64
     ensures { result ≡ bytes.address_or_zero address }
 {
     match address {
         Some(given) => given,
         None => 0,
     }
-}
-
-/// IAPC_BOOT_ARCH, as a number.
-fn pc_number(pc: &PcBootFeatures) -> u16
-    ensures { result ≡ flag_number (bytes.pc_flags pc.now) }
-{
-    flag_number(&[
-        pc.legacy_devices_are_accessible,
-        pc.motherboard_implements_8042,
-        pc.dont_probe_vga,
-        pc.dont_enable_msi,
-        pc.dont_enable_pcie_aspm,
-        pc.use_time_and_alarm_namespace_for_rtc,
-    ]) as u16
-}
-
-/// ARM_BOOT_ARCH, as a number.
-fn arm_number(arm: &ArmBootFeatures) -> u16
-    ensures { result ≡ flag_number (bytes.arm_flags arm.now) }
-{
-    flag_number(&[arm.implements_psci, arm.use_hvc_as_psci_conduit]) as u16
 }
 
 /// Whether there is no fixed hardware.
@@ -141,111 +127,41 @@ fn is_reduced(hardware: &FadtHardware) -> bool
 }
 
 /// Flags, as a number.
-fn feature_number(contents: &FadtContents) -> u32
-    ensures { result ≡ flag_number (bytes.feature_flags contents.now) }
+pub(crate) fn feature_number(contents: &FadtContents) -> u32
+    ensures { result ≡ bytes.feature_number contents.now }
 {
-    let f = &contents.features;
-    flag_number(&[
-        f.supports_equivalent_to_wbinvd,
-        f.wbinvd_flushes_all_caches,
-        f.all_procs_support_c1_power_state,
-        f.c2_configured_for_mp_system,
-        f.power_button_is_control_method,
-        f.sleep_button_is_control_method,
-        f.no_rtc_wake_in_fixed_register_space,
-        f.rtc_wakes_system_from_s4,
-        f.pm_timer_is_32_bit,
-        f.supports_docking,
+    flag_number(&flags_with(
+        &contents.features,
         contents.reset_register.is_some(), // RESET_REG_SUP
-        f.case_is_sealed,
-        f.system_is_headless,
-        f.use_instr_after_write_to_slp_typx,
-        f.supports_pciexp_wake_in_pm1,
-        f.use_pm_or_hpet_for_monotonically_decreasing_timers,
-        f.rtc_sts_is_valid_after_wakeup_from_s4,
-        f.ospm_may_leave_gpe_wake_events_armed_before_s5,
-        f.lapics_must_use_cluster_model_for_logical_mode,
-        f.local_xapics_must_use_physical_destination_mode,
         is_reduced(&contents.hardware), // HW_REDUCED_ACPI
-        f.no_benefit_to_s3,
-    ])
+    ))
 }
 
 /// The fields before RESET_REG.
 #[derive(Clone, Copy)]
-pub(crate) struct Front(pub(super) FadtContents);
+pub struct Front(pub(super) FadtContents);
 
 impl Record for Front {
     type Fields = [Field; 38];
 
     ghost fields_of = { λ s. bytes.front_fields s.0 (bytes.fixed_of s.0.hardware) };
 
-    #[tactic(auto, unfolding(crate::specs::Fadt::front_fields))]
     fn fields(&self) -> [Field; 38] {
-        let c = &self.0;
-        let h = fixed_of(&c.hardware);
-        [
-            Field::U32(narrow(address_or_zero(c.facs))),
-            Field::U32(narrow(c.dsdt)),
-            Field::Zeros(1),
-            Field::U8(c.power_profile.code()),
-            Field::U16(c.sci_interrupt),
-            Field::U32(h.smi_cmd_port),
-            Field::U8(h.acpi_enable),
-            Field::U8(h.acpi_disable),
-            Field::U8(h.s4bios_req),
-            Field::U8(h.pstate_control),
-            Field::U32(port_of(Some(h.pm1a_event))),
-            Field::U32(port_of(h.pm1b_event)),
-            Field::U32(port_of(Some(h.pm1a_control))),
-            Field::U32(port_of(h.pm1b_control)),
-            Field::U32(port_of(h.pm2_control)),
-            Field::U32(port_of(h.pm_timer)),
-            Field::U32(port_of(gpe_register(h.gpe0))),
-            Field::U32(port_of(gpe_register(h.gpe1))),
-            Field::U8(bytes_wide(Some(h.pm1a_event))),
-            Field::U8(bytes_wide(Some(h.pm1a_control))),
-            Field::U8(bytes_wide(h.pm2_control)),
-            Field::U8(if h.pm_timer.is_some() { 4 } else { 0 }),
-            Field::U8(gpe_length(h.gpe0)),
-            Field::U8(gpe_length(h.gpe1)),
-            Field::U8(h.gpe1_base),
-            Field::U8(h.c_state_control),
-            Field::U16(c.legacy.worst_c2_latency),
-            Field::U16(c.legacy.worst_c3_latency),
-            Field::U16(c.legacy.flush_size),
-            Field::U16(c.legacy.flush_stride),
-            Field::U8(c.legacy.duty_offset),
-            Field::U8(c.legacy.duty_width),
-            Field::U8(c.legacy.day_alarm),
-            Field::U8(c.legacy.month_alarm),
-            Field::U8(c.legacy.century),
-            Field::U16(pc_number(&c.pc_boot)),
-            Field::Zeros(1),
-            Field::U32(feature_number(c)),
-        ]
+        front_fields(&self.0, &fixed_of(&self.0.hardware))
     }
 }
 
 /// The fields between RESET_REG and the registers.
 #[derive(Clone, Copy)]
-pub(crate) struct Wide(pub(super) FadtContents);
+pub struct Wide(pub(super) FadtContents);
 
 impl Record for Wide {
     type Fields = [Field; 5];
 
     ghost fields_of = { λ s. bytes.wide_fields s.0 };
 
-    #[tactic(auto, unfolding(crate::specs::Fadt::wide_fields))]
     fn fields(&self) -> [Field; 5] {
-        let c = &self.0;
-        [
-            Field::U8(c.reset_value),
-            Field::U16(arm_number(&c.arm_boot)),
-            Field::U8(4),
-            Field::U64(address_or_zero(c.facs)),
-            Field::U64(c.dsdt),
-        ]
+        wide_fields(&self.0)
     }
 }
 
@@ -270,7 +186,7 @@ fn registers(c: &FadtContents) -> [Option<GenericAddress>; 10]
 
 /// The registers from X_PM1a_EVT_BLK to SLEEP_STATUS_REG, each with its bytes.
 #[derive(Clone, Copy)]
-pub(crate) struct WideRegisters(pub(super) FadtContents);
+pub struct WideRegisters(pub(super) FadtContents);
 
 impl Spelled for WideRegisters {
     ghost spelled = { λ s. flat_map register_bytes (bytes.registers s.0 (bytes.fixed_of s.0.hardware)) };

@@ -1,13 +1,14 @@
-use Rattle.acpi_writer.proofs.ShortTables.{bgrt_read, dsdt_read, hpet_read, mcfg_read, root_read, slit_read, ssdt_read}
+use Rattle.acpi_writer.proofs.ShortTables.{bgrt_read, dsdt_read, root_read, ssdt_read}
+use Rattle.acpi_table_writer.proofs.ShortTables.{hpet_read, mcfg_read, slit_read}
 use Rattle.acpi_writer.proofs.Headless.{facs_read, rsdp_read}
 use Rattle.acpi_writer.proofs.FadtRead.{fadt_read}
-use Rattle.acpi_writer.proofs.GicRead.{gic_madt_read}
-use Rattle.acpi_writer.proofs.RiscvRead.{riscv_madt_read}
-use Rattle.acpi_writer.proofs.GtdtRead.{gtdt_read}
-use Rattle.acpi_writer.proofs.Tables.{ids_are_read}
-use Rattle.acpi_writer.proofs.MadtRead.{madt_read, mailbox_read}
+use Rattle.acpi_table_writer.proofs.GicRead.{gic_madt_read}
+use Rattle.acpi_table_writer.proofs.RiscvRead.{riscv_madt_read}
+use Rattle.acpi_table_writer.proofs.GtdtRead.{gtdt_read}
+use Rattle.acpi_table_writer.proofs.Tables.{ids_are_read}
+use Rattle.acpi_table_writer.proofs.MadtRead.{madt_read, mailbox_read}
 use Rattle.acpi_writer.proofs.SpcrRead.{spcr_read}
-use Rattle.acpi_writer.proofs.SratRead.{srat_read}
+use Rattle.acpi_table_writer.proofs.SratRead.{srat_read}
 use Rattle.acpi_writer.proofs.laws.tables_are_read.Goals as goal
 
 pub returns : goal.returns

@@ -1,7 +1,7 @@
 use Rattle.std.proofs.Common.{refl}
 use Rattle.acpi_base.specs.FromStd.{chars, is_utf8}
 use Rattle.acpi_writer.proofs.ShortTables.{root_valid}
-use Rattle.acpi_writer.proofs.Tables.{valid}
+use Rattle.acpi_table_writer.proofs.Tables.{valid}
 use Rattle.acpi_writer.proofs.laws.tables_are_valid.Goals as goal
 
 pub returns : goal.returns

@@ -1,0 +1,14 @@
+pub mod Bits
+pub mod FieldsRead
+pub mod Tables
+pub mod Rows
+pub mod MadtEntries
+pub mod MadtRead
+pub mod SratRead
+pub mod GicRead
+pub mod GtdtStructures
+pub mod GtdtRead
+pub mod RiscvRead
+pub mod Harts
+pub mod Sized
+pub mod ShortTables

@@ -1,0 +1,33 @@
+//! Who made a table, as its header has it (section 5.2.6).
+ghost use Rattle.std.specs.Prelude.{◌≡◌};
+ghost use Rattle.acpi_table_writer.specs.Words.{AreIds, are_texts};
+
+use acpi_base::bytes::is_text;
+
+/// The fields of a table's header by which its makers are known (section 5.2.6). The names are filled up with spaces
+/// or zeros, and have to be valid UTF-8.
+#[repr(C)]
+#[derive(Clone, Copy)]
+pub struct TableIds {
+    /// OEMID: the OEM's name.
+    pub oem_id: [u8; 6],
+    /// OEM Table ID: the OEM's name for this table.
+    pub oem_table_id: [u8; 8],
+    /// OEM Revision: the OEM's revision of this table.
+    pub oem_revision: u32,
+    /// Creator ID: the name of the program that made the table.
+    pub creator_id: [u8; 4],
+    /// Creator Revision: the revision of that program.
+    pub creator_revision: u32,
+}
+
+impl TableIds {
+    /// Whether each name is valid UTF-8.
+    pub fn are_texts(self) -> bool
+        ensures texts { result ≡ are_texts self }
+        // The names and numbers are as long as their types have it.
+        ensures fit { AreIds self }
+    {
+        is_text(&self.oem_id) && is_text(&self.oem_table_id) && is_text(&self.creator_id)
+    }
+}

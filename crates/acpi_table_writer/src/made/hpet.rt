@@ -1,0 +1,30 @@
+//! Made by scripts/written of specs/Hpet.antt.
+ghost use Rattle.acpi_table_writer.specs.Hpet.{hpet_fields};
+
+use crate::fields::{Field, Record};
+use acpi::HpetInfo;
+
+/// The fields after the header.
+impl Record for HpetInfo {
+    type Fields = [Field; 7];
+
+    ghost fields_of = { hpet_fields };
+
+    #[tactic(auto, unfolding(crate::specs::Hpet::hpet_fields))]
+    fn fields(&self) -> [Field; 7] {
+        [
+            // 36: Event Timer Block ID
+            Field::U32(self.event_timer_block_id),
+            // 40: BASE_ADDRESS, whose space is memory and whose address is at 44
+            Field::U8(0),
+            Field::Zeros(3),
+            Field::U64(self.base_address),
+            // 52: HPET Number
+            Field::U8(self.hpet_number),
+            // 53: Main Counter Minimum Clock_tick in Periodic Mode
+            Field::U16(self.clock_tick_unit),
+            // 55: Page Protection And OEM Attribute
+            Field::U8(self.page_protection.code()),
+        ]
+    }
+}

@@ -1,8 +1,0 @@
-use Rattle.std.proofs.Common.{◌≡◌, drop, map}
-use Rattle.acpi_writer.specs.Words.{list_all, is_single}
-use Rattle.acpi_writer.proofs.madt.processors_fit.Given as goal
-
-abbrev pub invariant-loop-processor : goal.invariant-loop-processor
-invariant-loop-processor g l =
-    list_all is_single (map g.P.StandsFor.meant (drop l.processor-index l.processors))
-    ≡ list_all is_single (map g.P.StandsFor.meant l.processors)

@@ -1,0 +1,5 @@
+//! Made by scripts/written: what is written field by field, of the lists in specs/.
+
+pub(crate) mod bgrt;
+pub(crate) mod fadt;
+pub(crate) mod spcr;
