@@ -1,4 +1,4 @@
-//! Made by scripts/exports: the calls that the functions of acpi_c_lib make.
+//! Made by scripts/exports: the calls that the functions of the crates below make.
 
 mod devices;
 mod gic;

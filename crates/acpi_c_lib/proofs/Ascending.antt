@@ -1,5 +1,5 @@
 -- What regions in ascending order are, and where an address is in them.
-use Rattle.acpi_base.specs.Memory as memory
+use Rattle.acpi_bytes.specs.Memory as memory
 use Rattle.std.proofs.Common.{◌≡◌, ℕ, ◌+◌, ◌^◌, ◌<◌, ◌≤◌, List, [], ◌∷◌, ◌++◌, length, take, drop, refl, arith, true, get_or, add-one, ◌⊎◌, inl, inr, zero, suc, ◌-◌, Bool, false, leb, sym, ap, ◌∙◌, None, Some, slice_get, Option}
 use Rattle.acpi_base.proofs.FromStd.{map-append, drop_more, le-leb, lt-ltb, and_parts, leb-true, ltb-true, cases_lt, lt-leb, both_ways, take-suc, take-length, slice_get-get_or}
 use Rattle.acpi_c_lib.specs.Words.{IsBytes, Memory, AreApart, IsMemory, IsRegion, end_of, lies_in, rest_from, at, AllByRecursion, IsPartitionPoint, IsAscending, Region, check_from, check_regions, memory_of, region_of, LiesOnlyAt, Place, spot_from}

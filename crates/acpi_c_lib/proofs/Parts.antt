@@ -35,6 +35,6 @@ from_first out from xs =
     rw (none, all) refl
 
 -- all of a list from its first item on
-pub all_from : {X : Type 0} (said : Result (List X) Refusal) → items_from 0 said ≡ items_said said
+pub all_from : {X : Type 0} (expected : Result (List X) Refusal) → items_from 0 expected ≡ items_said expected
 all_from (Ok xs) = refl
 all_from (Err e) = refl

@@ -1,8 +1,13 @@
 -- What C gets of a result.
-use Rattle.std.specs.Prelude.{◌≡◌, ℕ, ◌+◌, List, [], ◌∷◌, length, slice_set, Option, Some, None, Result, Ok, Err}
+use Rattle.std.specs.Prelude.{◌≡◌, ℕ, ◌+◌, Bool, true, false, List, [], ◌∷◌, length, slice_set, Option, Some, None, Result, Ok, Err}
 use Rattle.acpi_c_lib.specs.Codes.{code_of, signature_of}
 use Rattle.acpi_c_lib.specs.Records as records
 use Rattle.acpi_c_lib.specs.Types.{letters_of, Signature, Refusal}
+
+-- whether something is so
+abbrev pub flag : Bool → ℕ
+flag true = 1
+flag false = 0
 
 -- what is made of the value, or the error
 abbrev pub result_map : {A B E : Type 0} → (A → B) → Result A E → Result B E
@@ -47,19 +52,19 @@ items_said (Err e) = []
 
 -- the items of a result, if another call doesn't fail
 abbrev pub items_beside : {A X : Type 0} → Result A Refusal → Result (List X) Refusal → List X
-items_beside (Ok x) said = items_said said
-items_beside (Err e) said = []
+items_beside (Ok x) expected = items_said expected
+items_beside (Err e) expected = []
 
 -- how many items there are, or the error; and the items were written as far as the capacity reaches
 abbrev pub Fills : {X : Type 0} → Result ℕ Refusal → List X → List X → Result (List X) Refusal → Type 0
-Fills count old new said = (count ≡ result_map length said) × (new ≡ put_from old 0 (items_said said))
+Fills count old new expected = (count ≡ result_map length expected) × (new ≡ put_from old 0 (items_said expected))
 
 -- how many items there are is returned as any value is, and the items were written as far as the capacity reaches
 abbrev pub AnswersList : {X : Type 0} → ℕ → List X → List X → ℕ → ℕ → records.Signature → records.Signature
     → Result (List X) Refusal → Type 0
-AnswersList status old new old_count new_count old_name new_name said =
-    Answers status old_count new_count old_name new_name (result_map length said)
-    × (new ≡ put_from old 0 (items_said said))
+AnswersList status old new old_count new_count old_name new_name expected =
+    Answers status old_count new_count old_name new_name (result_map length expected)
+    × (new ≡ put_from old 0 (items_said expected))
 
 -- ---- values that are described
 
@@ -74,5 +79,5 @@ AnswersSome Is status old new old_name new_name (Err e) =
 
 -- a value of which this holds, or the error
 abbrev pub GivesSome : {A B : Type 0} → (B → A → Type 0) → Result A Refusal → Result B Refusal → Type 0
-GivesSome Is (Ok y) said = (x : _) × (said ≡ Ok x) × Is x y
-GivesSome Is (Err e) said = said ≡ Err e
+GivesSome Is (Ok y) expected = (x : _) × (expected ≡ Ok x) × Is x y
+GivesSome Is (Err e) expected = expected ≡ Err e

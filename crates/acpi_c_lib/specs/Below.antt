@@ -2,7 +2,7 @@
 use Rattle.std.specs.Prelude.{ℕ, ◌*◌, ◌==◌, List, drop, Option, Result, Ok, Err, if◌then◌else◌, nat_lt, option_map, unwrap_or}
 use Rattle.acpi_base.specs.FromStd.{result_ok}
 use Rattle.acpi_base.specs.Words.{Memory, ◌>>=◌, Kind, holds, accepted}
-pub use Rattle.acpi_base.specs.declared.error.AcpiError.{AcpiError}
+pub use Rattle.acpi_bytes.specs.declared.error.AcpiError.{AcpiError}
 use Rattle.acpi.specs.Words.{bios_areas, extended_length_of, found_in_areas, found_rsdp, accepted_opened, root_of_revision, root_of_rsdp, rsdp_at, rsdp_of, Opened, pointers, width_of, word_in, lookup}
 use Rattle.acpi_c_lib.specs.Answers.{result_map}
 use Rattle.acpi_c_lib.specs.Regions.{memory_in}

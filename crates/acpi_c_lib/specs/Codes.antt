@@ -1,11 +1,11 @@
 -- The numbers that C gets for errors, as in `enum zacpi_status_code` in include/zacpi.h, and the signatures. 99 is for
 -- the errors that no call returns.
 use Rattle.std.specs.Prelude.{ℕ, Option, Some, None}
-use Rattle.acpi_base.specs.declared.error.AcpiError.TheVariants as acpi
-use Rattle.acpi_base.specs.declared.error.MadtError.TheVariants as madt
+use Rattle.acpi_bytes.specs.declared.error.AcpiError.TheVariants as acpi
+use Rattle.acpi_bytes.specs.declared.error.MadtError.TheVariants as madt
 use Rattle.acpi_c_lib.specs.Types.{AcpiError, MadtError, Signature, Refusal, WriterError}
 use Rattle.acpi_c_lib.specs.declared.refusal.Refusal.TheVariants as refusal
-use Rattle.acpi_writer.specs.declared.error.WriterError.TheVariants as writer
+use Rattle.acpi_table_writer.specs.declared.error.WriterError.TheVariants as writer
 
 -- the errors of a MADT's entries (section 5.2.12)
 abbrev pub madt_code : MadtError → ℕ

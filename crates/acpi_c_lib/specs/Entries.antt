@@ -1,11 +1,10 @@
 -- The entries of any table as C gets them, by where Type and Length are in each.
 use Rattle.std.specs.Prelude.{ℕ, ◌+◌, ◌==◌, nat_le, nat_lt, List, [], ◌∷◌, drop, length, None, Result, Ok, Err, if◌then◌else◌}
 use Rattle.acpi_base.specs.Words.{cut, number_at, header_at, ◌>>=◌, holds, own_accepted}
-use Rattle.acpi_base.specs.declared.entries.Place.{Place}
+use Rattle.acpi_bytes.specs.declared.entries.Place.{Place}
 use Rattle.acpi.specs.Types.{EntryLayout, Grammar, Width, One, Two, Four, SdtInvalidLength}
-use Rattle.acpi_c_lib.specs.Answers.{result_map}
+use Rattle.acpi_c_lib.specs.Answers.{flag, result_map}
 use Rattle.acpi_c_lib.specs.Below.{Refusal, Source, check_policy, refused_as}
-use Rattle.acpi_c_lib.specs.Devices.{flag}
 use Rattle.acpi_c_lib.specs.Regions.{memory_in}
 use Rattle.acpi_c_lib.specs.Types.{Entry, Acpi, UnknownWidth, Walk}
 

@@ -19,54 +19,57 @@ abbrev pub last_range : Ranges → Option Range
 last_range ranges = option_map range_of (last_or None ranges)
 
 -- the unmapped range because of which a definition fails
-abbrev pub hole : {A : Type 0} → Result A AcpiError → Ranges → Option Range
-hole (Err MapFailed) ranges = last_range ranges
-hole _ ranges = None
+abbrev pub missing_range : {A : Type 0} → Result A AcpiError → Ranges → Option Range
+missing_range (Err MapFailed) ranges = last_range ranges
+missing_range _ ranges = None
 
 -- ---- below a root table
 
 -- the unmapped range of a table: its header, or the bytes of the header's Length (section 5.2.6)
-abbrev pub unlent : ℕ → Result (List ℕ) AcpiError → Range
-unlent p (Ok head) = range_of (p, (header_at head).length)
-unlent p (Err e) = range_of (p, 36)
+abbrev pub unmapped_range : ℕ → Result (List ℕ) AcpiError → Range
+unmapped_range p (Ok head) = range_of (p, (header_at head).length)
+unmapped_range p (Err e) = range_of (p, 36)
 
 -- of a table, if that is why it fails
-abbrev pub table_hole : Memory → ℕ → Result (List ℕ) AcpiError → Option Range
-table_hole m p (Err MapFailed) = Some (unlent p (lent m p 36))
-table_hole m p _ = None
+abbrev pub table_missing_range : Memory → ℕ → Result (List ℕ) AcpiError → Option Range
+table_missing_range m p (Err MapFailed) = Some (unmapped_range p (lent m p 36))
+table_missing_range m p _ = None
 
 -- of a member, under its own signature
-abbrev pub member_hole : ℕ → Memory → ℕ → Option Range
-member_hole accept m p = table_hole m p (own_accepted accept m p)
+abbrev pub member_missing_range : ℕ → Memory → ℕ → Option Range
+member_missing_range accept m p = table_missing_range m p (own_accepted accept m p)
 
 -- of the DSDT (section 5.2.11.1) and the FACS (section 5.2.10) that a FADT points to
-abbrev pub dsdt_hole : ℕ → Memory → Result ℕ AcpiError → Option Range
-dsdt_hole accept m (Ok p) = table_hole m p (table_at m (accepted accept (plain_kind DSDT)) p)
-dsdt_hole accept m (Err e) = None
+abbrev pub dsdt_missing_range : ℕ → Memory → Result ℕ AcpiError → Option Range
+dsdt_missing_range accept m (Ok p) = table_missing_range m p (table_at m (accepted accept (plain_kind DSDT)) p)
+dsdt_missing_range accept m (Err e) = None
 
-abbrev pub led_holes : ℕ → Memory → Result (ℕ × List ℕ) AcpiError → List Range
-led_holes accept m (Ok found) =
+abbrev pub dsdt_and_facs_missing_ranges : ℕ → Memory → Result (ℕ × List ℕ) AcpiError → List Range
+dsdt_and_facs_missing_ranges accept m (Ok found) =
     let fadt = fadt_at found.1 in
-    cons_option (dsdt_hole accept m (dsdt_address_of fadt))
-    (cons_option (hole (facs_place m fadt) (facs_place_ranges m fadt)) [])
-led_holes accept m (Err e) = []
+    cons_option (dsdt_missing_range accept m (dsdt_address_of fadt))
+    (cons_option (missing_range (facs_place m fadt) (facs_place_ranges m fadt)) [])
+dsdt_and_facs_missing_ranges accept m (Err e) = []
 
 -- of the members, in order, and then of what the first FADT that is accepted points to
-abbrev pub holes_below : ℕ → Memory → List ℕ → List Range
-holes_below accept m ps =
-    filter_map (member_hole accept m) ps ++ led_holes accept m (lookup m (accepted accept fadt_kind) ps)
+abbrev pub missing_ranges_below : ℕ → Memory → List ℕ → List Range
+missing_ranges_below accept m ps =
+    filter_map (member_missing_range accept m) ps
+    ++ dsdt_and_facs_missing_ranges accept m (lookup m (accepted accept fadt_kind) ps)
 
 -- ---- of the RSDPs that a search comes to (section 5.2.5.1)
 
 -- the range that a candidate's Length covers, if its first 36 bytes are mapped and that range isn't: the last of its
 -- ranges after the first
-unfoldable pub candidate_hole : Memory → ℕ → Option Range
-candidate_hole m a = hole (rsdp_at m a) (drop 1 (rsdp_ranges m a))
+unfoldable pub candidate_missing_range : Memory → ℕ → Option Range
+candidate_missing_range m a = missing_range (rsdp_at m a) (drop 1 (rsdp_ranges m a))
 
 -- the ranges of candidates from an address on, up to the first valid one
-unfoldable pub walk_holes : Memory → ℕ → ℕ → List Range
-walk_holes m zero a = []
-walk_holes m (suc n) a = or_later (λ b. []) (rsdp_at m a) (cons_option (candidate_hole m a) (walk_holes m n (a + 16)))
+unfoldable pub walk_missing_ranges : Memory → ℕ → ℕ → List Range
+walk_missing_ranges m zero a = []
+walk_missing_ranges m (suc n) a = or_later (λ b. []) (rsdp_at m a) (cons_option (candidate_missing_range m a)
+    (walk_missing_ranges m n
+    (a + 16)))
 
 -- whether one of them is valid
 unfoldable pub has_valid : Memory → ℕ → ℕ → Bool
@@ -108,36 +111,37 @@ abbrev pub Fits : Candidates → Type 0
 Fits c = c.first + 16 * c.count ≤ 2 ^ 20
 
 -- the ranges of the first area's candidates, and if none is valid there the second's too
-abbrev pub areas_holes : Memory → Areas → List Range
-areas_holes m a =
-    walk_holes m a.first.count a.first.first
-    ++ (if has_valid m a.first.count a.first.first then [] else walk_holes m a.second.count a.second.first)
+abbrev pub areas_missing_ranges : Memory → Areas → List Range
+areas_missing_ranges m a =
+    walk_missing_ranges m a.first.count a.first.first
+    ++ (if has_valid m a.first.count a.first.first then [] else walk_missing_ranges m a.second.count a.second.first)
 
-unfoldable pub candidate_holes : Memory → Source → List Range
-candidate_holes m s = areas_holes m (areas_of m s)
+unfoldable pub candidate_missing_ranges : Memory → Source → List Range
+candidate_missing_ranges m s = areas_missing_ranges m (areas_of m s)
 
 -- ---- of the tables that a caller names
 
 -- of the RSDP at an address, or of the search that needs its areas mapped whole, by the number of a start
-abbrev pub rsdp_hole : Memory → Source → AcpiError → Option Range
-rsdp_hole m s e =
-    if s.start == 0 then hole {A = ℕ} (Err e) (rsdp_ranges m s.address)
-    else if s.start == 3 then hole {A = ℕ} (Err e) (search_ranges m)
+abbrev pub rsdp_missing_range : Memory → Source → AcpiError → Option Range
+rsdp_missing_range m s e =
+    if s.start == 0 then missing_range {A = ℕ} (Err e) (rsdp_ranges m s.address)
+    else if s.start == 3 then missing_range {A = ℕ} (Err e) (search_ranges m)
     else None
 
 -- of the root table, or of what is to point to it
-abbrev pub root_hole : Memory → Source → Result RootPointer Refusal → Option Range
-root_hole m s (Ok place) = table_hole m place.address (accepted_root_at s.accept m place.kind place.address)
-root_hole m s (Err (Acpi e)) = rsdp_hole m s e
-root_hole m s (Err e) = None
+abbrev pub root_missing_range : Memory → Source → Result RootPointer Refusal → Option Range
+root_missing_range m s (Ok place) = table_missing_range m place.address
+    (accepted_root_at s.accept m place.kind place.address)
+root_missing_range m s (Err (Acpi e)) = rsdp_missing_range m s e
+root_missing_range m s (Err e) = None
 
-abbrev pub opening_hole : Memory → Source → Option Range
-opening_hole m s = root_hole m s (root_pointer_in m s)
+abbrev pub opening_missing_range : Memory → Source → Option Range
+opening_missing_range m s = root_missing_range m s (root_pointer_in m s)
 
 -- the ranges below the root table, or the one of opening
 abbrev pub missing_in : Memory → Source → Result Opened Refusal → Result (List Range) Refusal
-missing_in m s (Ok o) = Ok (holes_below s.accept m (pointers_in o))
-missing_in m s (Err (Acpi e)) = Ok (cons_option (opening_hole m s) [])
+missing_in m s (Ok o) = Ok (missing_ranges_below s.accept m (pointers_in o))
+missing_in m s (Err (Acpi e)) = Ok (cons_option (opening_missing_range m s) [])
 missing_in m s (Err e) = Err e
 
 -- the ranges of a search's candidates, and then the others
@@ -146,33 +150,33 @@ missing_below s = do
   m ← memory_in s.regions.now
   _ ← check_policy s
   others ← missing_in m s (opened_in m s)
-  Ok (candidate_holes m s ++ others)
+  Ok (candidate_missing_ranges m s ++ others)
 
 -- ---- what the ranges mean
 
 -- there is such a range, and it isn't mapped
-abbrev pub IsUnlent : Memory → Option Range → Type 0
-IsUnlent m (Some r) = at m r.address r.length ≡ None
-IsUnlent m None = ⊥
+abbrev pub IsUnmapped : Memory → Option Range → Type 0
+IsUnmapped m (Some r) = at m r.address r.length ≡ None
+IsUnmapped m None = ⊥
 
 -- each member that fails because it isn't mapped has a range
-abbrev pub MembersHaveHoles : Type 0
-MembersHaveHoles = (accept : ℕ) (m : Memory) (p : ℕ) → own_accepted accept m p ≡ Err MapFailed
-    → IsUnlent m (member_hole accept m p)
+abbrev pub MembersLackRanges : Type 0
+MembersLackRanges = (accept : ℕ) (m : Memory) (p : ℕ) → own_accepted accept m p ≡ Err MapFailed
+    → IsUnmapped m (member_missing_range accept m p)
 
 -- so has a candidate whose first 36 bytes are mapped, and that fails because its Length's aren't
-abbrev pub CandidatesHaveHoles : Type 0
-CandidatesHaveHoles = (m : Memory) (a : ℕ) (b : List ℕ) → lent m a 36 ≡ Ok b → rsdp_at m a ≡ Err MapFailed
-    → IsUnlent m (candidate_hole m a)
+abbrev pub CandidatesLackRanges : Type 0
+CandidatesLackRanges = (m : Memory) (a : ℕ) (b : List ℕ) → lent m a 36 ≡ Ok b → rsdp_at m a ≡ Err MapFailed
+    → IsUnmapped m (candidate_missing_range m a)
 
 -- so have the DSDT and the FACS that a FADT points to
-abbrev pub LedHaveHoles : Type 0
-LedHaveHoles = (accept : ℕ) (m : Memory) (f : Fadt)
+abbrev pub DsdtAndFacsLackRanges : Type 0
+DsdtAndFacsLackRanges = (accept : ℕ) (m : Memory) (f : Fadt)
     → ((p : ℕ) → dsdt_address_of f ≡ Ok p → table_at m (accepted accept (plain_kind DSDT)) p ≡ Err MapFailed
-    → IsUnlent m (dsdt_hole accept m (dsdt_address_of f)))
-    × (facs_place m f ≡ Err MapFailed → IsUnlent m (hole (facs_place m f) (facs_place_ranges m f)))
+    → IsUnmapped m (dsdt_missing_range accept m (dsdt_address_of f)))
+    × (facs_place m f ≡ Err MapFailed → IsUnmapped m (missing_range (facs_place m f) (facs_place_ranges m f)))
 
 -- opening that fails because something isn't mapped has a range
-abbrev pub OpeningHasHole : Type 0
-OpeningHasHole = (m : Memory) (s : Source) → opened_in m s ≡ Err (Acpi MapFailed)
-    → IsUnlent m (opening_hole m s)
+abbrev pub OpeningLacksRange : Type 0
+OpeningLacksRange = (m : Memory) (s : Source) → opened_in m s ≡ Err (Acpi MapFailed)
+    → IsUnmapped m (opening_missing_range m s)

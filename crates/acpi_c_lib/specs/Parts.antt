@@ -15,12 +15,13 @@ items_from from (Err e) = []
 
 -- how many items there are, or the error; and those from an index on were written as far as the capacity reaches
 abbrev pub FillsFrom : {X : Type 0} → ℕ → Result ℕ Refusal → List X → List X → Result (List X) Refusal → Type 0
-FillsFrom from count old new said = (count ≡ result_map length said) × (new ≡ put_from old 0 (items_from from said))
+FillsFrom from count old new expected = (count ≡ result_map length expected) × (new
+    ≡ put_from old 0 (items_from from expected))
 
 -- how many items there are is returned as any value is, and those from an index on were written as far as the capacity
 -- reaches
 abbrev pub AnswersListFrom : {X : Type 0} → ℕ → ℕ → List X → List X → ℕ → ℕ → records.Signature → records.Signature
     → Result (List X) Refusal → Type 0
-AnswersListFrom from status old new old_count new_count old_name new_name said =
-    Answers status old_count new_count old_name new_name (result_map length said)
-    × (new ≡ put_from old 0 (items_from from said))
+AnswersListFrom from status old new old_count new_count old_name new_name expected =
+    Answers status old_count new_count old_name new_name (result_map length expected)
+    × (new ≡ put_from old 0 (items_from from expected))

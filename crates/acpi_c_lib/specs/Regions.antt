@@ -1,6 +1,6 @@
 -- The memory that a caller's regions are.
 use Rattle.std.specs.Prelude.{ℕ, ◌^◌, nat_le, nat_lt, List, [], ◌∷◌, map, Result, Ok}
-use Rattle.acpi_base.specs.Memory as memory
+use Rattle.acpi_bytes.specs.Memory as memory
 use Rattle.acpi_base.specs.Words.{Memory, end_of, ◌>>=◌, holds}
 use Rattle.acpi_c_lib.specs.Types.{Refusal, RegionsNotAscending, RegionTooHigh}
 pub use Rattle.acpi_c_lib.specs.declared.regions.Region.{Region}

@@ -1,15 +1,14 @@
 -- What the calls return of the tables that a caller names.
-use Rattle.std.specs.Prelude.{ℕ, List, filter_map, length, map, Option, Result, Ok, ok_or, unwrap_or}
-use Rattle.acpi_base.specs.FromStd.{is_some, result_ok}
-use Rattle.acpi_base.specs.Words.{ecam_range, filled_part, header_at, mcfg_entries_of, Memory, ◌>>=◌, plain_kind, letters_of, accepted, own_accepted, table_at}
-pub use Rattle.acpi_base.specs.declared.table.signature.Signature.{Signature}
-use Rattle.acpi.specs.Types.{DSDT, McfgEntry, SSDT}
+use Rattle.std.specs.Prelude.{ℕ, List, filter_map, length, Option, Result, Ok, unwrap_or}
+use Rattle.acpi_base.specs.FromStd.{result_ok}
+use Rattle.acpi_base.specs.Words.{filled_part, header_at, Memory, ◌>>=◌, plain_kind, letters_of, accepted, own_accepted, table_at}
+pub use Rattle.acpi_bytes.specs.declared.signature.Signature.{Signature}
+use Rattle.acpi.specs.Types.{DSDT, SSDT}
 use Rattle.acpi_fixed.specs.Words.{dsdt_address_of, fadt_at}
-use Rattle.acpi.specs.Words.{Opened, ecam_address, fadt_kind, hpet_at, hpet_kind, info_of, mcfg_kind, protection_code, stream_of, width_of, lookup}
-use Rattle.acpi_c_lib.specs.Types.{HpetInfo, EcamRange, PciRegion, Root, NoSuchFunction}
+use Rattle.acpi.specs.Words.{Opened, fadt_kind, stream_of, width_of, lookup}
+use Rattle.acpi_c_lib.specs.Types.{Root}
 use Rattle.acpi_c_lib.specs.Answers.{result_map}
-use Rattle.acpi_c_lib.specs.Below.{AcpiError, Refusal, Source, below_first, below_source, check_policy, first_table, opened_below, refused_as, rsdp_place_in}
-use Rattle.acpi_c_lib.specs.Devices.{flag}
+use Rattle.acpi_c_lib.specs.Below.{AcpiError, Refusal, Source, below_source, check_policy, opened_below, refused_as, rsdp_place_in}
 use Rattle.acpi_c_lib.specs.Records as records
 use Rattle.acpi_c_lib.specs.Regions.{memory_in}
 pub use Rattle.acpi_c_lib.specs.declared.records.Table.{Table}
@@ -106,67 +105,3 @@ ssdts_in accept m ps = filter_map (ssdt_in accept m) ps
 
 abbrev pub ssdts_below : Source → Result (List records.AmlTable) Refusal
 ssdts_below s = below_source s (λ m ps. Ok (ssdts_in s.accept m ps))
-
--- ---- PCI configuration space (MCFG; PCI Firmware Specification, section 4.1.2)
-
-abbrev pub pci_record : McfgEntry → PciRegion
-pci_record e = record {
-  base_address = e.base_address;
-  segment_group = e.pci_segment_group;
-  first_bus = e.bus_number_start;
-  last_bus = e.bus_number_end;
-}
-
-abbrev pub pci_regions_below : Source → Result (List PciRegion) Refusal
-pci_regions_below s = below_first mcfg_kind s (λ table. map pci_record (mcfg_entries_of table))
-
--- a segment group and the memory of a region's buses, with its base taken as that of bus 0 (PCI Firmware Specification,
--- section 4.1.2), or zeros
-abbrev pub ecam_record : McfgEntry → EcamRange
-ecam_record e =
-    let range = unwrap_or (ecam_range e) (record { address = 0; length = 0 }) in
-    record {
-      address = range.address;
-      length = range.length;
-      segment_group = e.pci_segment_group;
-      present = flag (is_some (ecam_range e));
-    }
-
--- the memory of each region of the first valid MCFG, in order
-abbrev pub ecam_ranges_below : Source → Result (List EcamRange) Refusal
-ecam_ranges_below s = below_first mcfg_kind s (λ table. map ecam_record (mcfg_entries_of table))
-
-abbrev pub ecam_below : Source → ℕ → ℕ → ℕ → ℕ → Result ℕ Refusal
-ecam_below s segment bus device function = do
-  table ← first_table mcfg_kind s
-  ok_or (ecam_address (mcfg_entries_of table) segment bus device function) NoSuchFunction
-
--- ---- devices
-
-abbrev pub hpet_record : HpetInfo → records.HpetInfo
-hpet_record i = record {
-  base_address = i.base_address;
-  event_timer_block_id = i.event_timer_block_id;
-  clock_tick_unit = i.clock_tick_unit;
-  number = i.hpet_number;
-  page_protection = protection_code i.page_protection;
-}
-
--- an HPET by its bytes, if its registers are in memory
-abbrev pub hpet_shown : List ℕ → Result records.HpetInfo AcpiError
-hpet_shown table = result_map hpet_record (info_of (hpet_at table))
-
-abbrev pub hpet_below : Source → Result records.HpetInfo Refusal
-hpet_below s = below_source s (λ m ps. do
-  found ← lookup m (accepted s.accept hpet_kind) ps
-  hpet_shown found.1)
-
--- the HPET of a member, if it is a valid one
-abbrev pub hpet_in : ℕ → Memory → ℕ → Option records.HpetInfo
-hpet_in accept m p = result_ok (table_at m (accepted accept hpet_kind) p >>= hpet_shown)
-
-abbrev pub hpets_in : ℕ → Memory → List ℕ → List records.HpetInfo
-hpets_in accept m ps = filter_map (hpet_in accept m) ps
-
-abbrev pub hpets_below : Source → Result (List records.HpetInfo) Refusal
-hpets_below s = below_source s (λ m ps. Ok (hpets_in s.accept m ps))

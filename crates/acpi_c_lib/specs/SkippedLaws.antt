@@ -7,7 +7,7 @@ use Rattle.acpi.specs.Types.{SdtInvalidSignature}
 use Rattle.acpi.specs.Words.{rsdp_at}
 use Rattle.acpi_c_lib.specs.Below.{AcpiError}
 use Rattle.acpi_c_lib.specs.Faults.{accepted_fault, fault_record, faults_among}
-use Rattle.acpi_c_lib.specs.Missing.{candidate_hole, walk_holes}
+use Rattle.acpi_c_lib.specs.Missing.{candidate_missing_range, walk_missing_ranges}
 use Rattle.acpi_c_lib.specs.Types.{Fault}
 
 -- ---- the tables that a lookup skips
@@ -47,10 +47,10 @@ IsNoRsdp m a = is_ok (rsdp_at m a) ≡ false
 
 abbrev pub RangesAreTheirs : Type 0
 RangesAreTheirs = (m : Memory) (n a : ℕ) → All (IsNoRsdp m) (candidates_from n a)
-    → walk_holes m n a ≡ filter_map (candidate_hole m) (candidates_from n a)
+    → walk_missing_ranges m n a ≡ filter_map (candidate_missing_range m) (candidates_from n a)
 
 -- nothing is listed of the first that is valid, nor of those after it
 abbrev pub RsdpEndsRanges : Type 0
 RsdpEndsRanges = (m : Memory) (n all a : ℕ) → n < all → All (IsNoRsdp m) (candidates_from n a)
     → is_ok (rsdp_at m (a + 16 * n)) ≡ true
-    → walk_holes m all a ≡ filter_map (candidate_hole m) (candidates_from n a)
+    → walk_missing_ranges m all a ≡ filter_map (candidate_missing_range m) (candidates_from n a)

@@ -39,15 +39,15 @@ abbrev pub facs_range : Memory → Fadt → Option Range
 facs_range m f = result_ok (result_map range_record (facs_place m f))
 
 -- the ranges of the DSDT and the FACS of the first FADT that is accepted
-abbrev pub led_ranges : ℕ → Memory → Result (ℕ × List ℕ) AcpiError → Option Range × Option Range
-led_ranges accept m (Ok found) = let fadt = fadt_at found.1 in (dsdt_range accept m fadt, facs_range m fadt)
-led_ranges accept m (Err e) = (None, None)
+abbrev pub dsdt_and_facs_ranges : ℕ → Memory → Result (ℕ × List ℕ) AcpiError → Option Range × Option Range
+dsdt_and_facs_ranges accept m (Ok found) = let fadt = fadt_at found.1 in (dsdt_range accept m fadt, facs_range m fadt)
+dsdt_and_facs_ranges accept m (Err e) = (None, None)
 
 -- the members, and then those
 abbrev pub members_ranges : ℕ → Memory → List ℕ → List Range
 members_ranges accept m ps =
-    let led = led_ranges accept m (lookup m (accepted accept fadt_kind) ps) in
-    filter_map (range_in accept m) ps ++ cons_option led.0 (cons_option led.1 [])
+    let dsdt_and_facs = dsdt_and_facs_ranges accept m (lookup m (accepted accept fadt_kind) ps) in
+    filter_map (range_in accept m) ps ++ cons_option dsdt_and_facs.0 (cons_option dsdt_and_facs.1 [])
 
 -- the RSDP if one pointed to the root table, the root table, and the tables
 abbrev pub ranges_below : Source → Result (List Range) Refusal

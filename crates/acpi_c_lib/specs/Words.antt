@@ -1,13 +1,49 @@
 -- Made by scripts/words: what proofs, contracts and the crates above bring in from this crate's specs.
-pub use Rattle.acpi_c_lib.specs.AcceptLaws.{AcceptsAsReaders}
-pub use Rattle.acpi_c_lib.specs.Affinities.{
-  affinity_shown,
-  below_srat,
-  counted_if,
-  initiator_shown,
-  its_shown,
-  memory_shown,
-  processor_affinity,
+pub use Rattle.acpi.specs.Search.{IsFound}
+pub use Rattle.acpi.specs.Types.{
+  AddressRange,
+  EntryLayout,
+  Four,
+  Grammar,
+  MapFailed,
+  One,
+  Two,
+  Width,
+}
+pub use Rattle.acpi.specs.Words.{
+  IsAscending,
+  IsFirstIn,
+  length_ranges,
+}
+unfoldable pub use Rattle.acpi.specs.Words.{
+  rsdp_at,
+  word_in,
+}
+pub use Rattle.acpi_base.specs.FromStd.{
+  AllByRecursion,
+  IsPartitionPoint,
+  concat,
+  is_ok,
+  result_unwrap_or,
+}
+pub use Rattle.acpi_base.specs.Words.{
+  AreApart,
+  IsBytes,
+  IsEntry,
+  IsMemory,
+  IsRegion,
+  Memory,
+  after_one,
+  end_of,
+  lies_in,
+  number_in,
+  with_entry,
+  ◌>>=◌,
+}
+unfoldable pub use Rattle.acpi_base.specs.Words.{
+  at,
+  cut,
+  rest_from,
 }
 pub use Rattle.acpi_c_lib.specs.Answers.{
   Answers,
@@ -17,65 +53,12 @@ pub use Rattle.acpi_c_lib.specs.Answers.{
   Fills,
   GivesSome,
   Writes,
+  flag,
   items_beside,
   items_said,
   name_or,
   put_from,
   result_map,
-}
-pub use Rattle.acpi_c_lib.specs.ApicLaws.{
-  ListsAreModels,
-  line_said,
-  line_shown,
-  nmi_source_record,
-  of_all,
-  override_record,
-  processor_said,
-  processor_shown,
-  state_code,
-}
-pub use Rattle.acpi_c_lib.specs.Apics.{
-  MadtEntry,
-  apic_entries,
-  below_apics,
-  boot_first,
-  booted,
-  io_apic_in,
-  is_of_apics,
-  mailbox_below,
-  nmi_line,
-  nmi_line_in,
-  nmi_source_in,
-  override_in,
-  processor_in,
-  processors_below,
-  processors_of,
-}
-unfoldable pub use Rattle.acpi_c_lib.specs.Apics.{apic_table}
-pub use Rattle.acpi_c_lib.specs.Arm.{
-  below_gic,
-  cpu_interfaces_shown,
-  distributor_below,
-  is_of_gic,
-  msi_frames_shown,
-  redistributors_shown,
-  translation_services_shown,
-}
-pub use Rattle.acpi_c_lib.specs.ArmTimers.{
-  GtFrame,
-  arm_timer_or,
-  arm_timer_record,
-  frame_record,
-  frames_in,
-  frames_of,
-  frames_shown,
-  gtdt_below,
-  or_ones,
-  timers_record,
-  timers_shown,
-  watchdog_in,
-  watchdogs_of,
-  watchdogs_shown,
 }
 pub use Rattle.acpi_c_lib.specs.Below.{
   AcpiError,
@@ -110,25 +93,10 @@ pub use Rattle.acpi_c_lib.specs.Clip.{
   holds,
   wanted,
 }
-pub use Rattle.acpi_c_lib.specs.Console.{
-  console_below,
-  console_record,
-}
 pub use Rattle.acpi_c_lib.specs.Copied.{
   padded,
   source_of_rsdp,
   started_by,
-}
-pub use Rattle.acpi_c_lib.specs.Devices.{
-  flag,
-  generic_record,
-  graphic_below,
-  graphic_record,
-  optional_register,
-  register_if,
-  required_register,
-  timer_below,
-  timer_record,
 }
 pub use Rattle.acpi_c_lib.specs.Entries.{
   entries_below,
@@ -159,105 +127,21 @@ pub use Rattle.acpi_c_lib.specs.Faults.{
   kind_named,
 }
 unfoldable pub use Rattle.acpi_c_lib.specs.Faults.{least_named}
-pub use Rattle.acpi_c_lib.specs.Fixed.{
-  fixed_below,
-  fixed_record,
-  gpe_record,
-  hypervisor_id_in,
-  minor_revision_in,
-  revision_in,
-}
 pub use Rattle.acpi_c_lib.specs.FoundRsdp.{
   rsdp_below,
   rsdp_record,
 }
-pub use Rattle.acpi_c_lib.specs.GtdtFaults.{
-  gtdt_faults_below,
-  gtdt_faults_of,
-  last_faults,
-  timer_fault,
-  timers_cut,
-}
 pub use Rattle.acpi_c_lib.specs.Held.{mapped_memory}
-pub use Rattle.acpi_c_lib.specs.Iommu.{
-  block_record,
-  dmar_flags_below,
-  dmar_flags_record,
-  dmar_hpet_below,
-  dmar_io_apic_below,
-  dmar_reserved_below,
-  dmar_unit_below,
-  iommu_refusal,
-  ivrs_memory_below,
-  ivrs_unit_below,
-  memory_record,
-  reserved_record,
-  source_record,
-  unit_record,
-}
-pub use Rattle.acpi_c_lib.specs.IommuFaults.{
-  dmar_faults_below,
-  dmar_faults_of,
-  iommu_fault,
-  iommu_faults_from,
-  ivrs_faults_below,
-  ivrs_faults_of,
-}
-pub use Rattle.acpi_c_lib.specs.IommuLists.{
-  dmar_scopes_below,
-  drhd_shown,
-  entry_shown,
-  hid_part,
-  is_ivhd_block,
-  is_of_type,
-  ivhd_in,
-  ivhd_shown,
-  ivrs_entries_below,
-  path_shown,
-  scope_record,
-  special_or,
-  structure_in,
-  structure_scopes_below,
-}
-pub use Rattle.acpi_c_lib.specs.IommuRegions.{
-  below_dmar,
-  below_ivrs,
-  dmar_affinity_shown,
-  ivmd_shown,
-  rmrr_shown,
-  root_ports_shown,
-}
-pub use Rattle.acpi_c_lib.specs.IsaList.{
-  IsaInterrupts,
-  IsaRoute,
-  ItemsAreAnswers,
-  isa_list,
-  isa_list_below,
-  isa_route,
-  nearer_of,
-  no_route,
-  number_of,
-  route_by,
-  route_of,
-}
-unfoldable pub use Rattle.acpi_c_lib.specs.IsaList.{isa_numbers}
 pub use Rattle.acpi_c_lib.specs.Listed.{
   lists_by,
   lists_each,
   lists_some,
 }
-pub use Rattle.acpi_c_lib.specs.LocalApic.{local_apic_below}
 pub use Rattle.acpi_c_lib.specs.Located.{
   LiesOnlyAt,
   Place,
   located,
   spot_from,
-}
-pub use Rattle.acpi_c_lib.specs.MadtFaults.{
-  madt_fault,
-  madt_faults_below,
-  madt_faults_of,
-  madt_refusal,
 }
 pub use Rattle.acpi_c_lib.specs.Members.{
   member_at,
@@ -267,81 +151,41 @@ pub use Rattle.acpi_c_lib.specs.Members.{
 }
 pub use Rattle.acpi_c_lib.specs.Missing.{
   Areas,
-  CandidatesHaveHoles,
+  CandidatesLackRanges,
+  DsdtAndFacsLackRanges,
   Fits,
-  IsUnlent,
-  LedHaveHoles,
-  MembersHaveHoles,
-  OpeningHasHole,
-  areas_holes,
+  IsUnmapped,
+  MembersLackRanges,
+  OpeningLacksRange,
+  areas_missing_ranges,
   areas_of,
-  dsdt_hole,
-  hole,
+  dsdt_missing_range,
   last_range,
-  member_hole,
+  member_missing_range,
   missing_below,
   missing_in,
+  missing_range,
   no_areas,
-  opening_hole,
+  opening_missing_range,
   pieces,
   range_of,
-  root_hole,
-  rsdp_hole,
+  root_missing_range,
+  rsdp_missing_range,
   stretch,
-  table_hole,
-  unlent,
+  table_missing_range,
+  unmapped_range,
 }
 unfoldable pub use Rattle.acpi_c_lib.specs.Missing.{
-  candidate_hole,
-  candidate_holes,
+  candidate_missing_range,
+  candidate_missing_ranges,
   has_valid,
-  walk_holes,
-}
-pub use Rattle.acpi_c_lib.specs.Model.{
-  AtSamePlaces,
-  CountsBeside,
-  MadtItem,
-  accepted_model,
-  apics_by,
-  below_platform,
-  counts_of,
-  io_apic_record,
-  listed,
-  model_by,
-  platform_model,
-}
-pub use Rattle.acpi_c_lib.specs.Numa.{
-  IsLocalities,
-  distance_below,
-  domain_of_address_below,
-  domain_of_apic_below,
-  domain_of_processor_below,
-  no_domain,
-  slit_in,
-  srat_fault,
-  srat_faults_below,
-  srat_faults_of,
+  walk_missing_ranges,
 }
 pub use Rattle.acpi_c_lib.specs.Parts.{
   AnswersListFrom,
   FillsFrom,
   WritesFrom,
   items_from,
-}
-pub use Rattle.acpi_c_lib.specs.Power.{
-  accepted_answer,
-  dsdt_answer,
-  enable_plan_below,
-  kind_code,
-  plan_record,
-  plan_refusal,
-  plan_said,
-  reset_plan_below,
-  sleep_plan_below,
-  sleep_refusal,
-  sleep_types_below,
-  step_record,
-  types_below,
 }
 pub use Rattle.acpi_c_lib.specs.RangeOrder.{
   AreSorted,
@@ -353,6 +197,15 @@ pub use Rattle.acpi_c_lib.specs.RangeOrder.{
   end_after,
   rest_of,
 }
+pub use Rattle.acpi_c_lib.specs.Redistributors.{
+  is_short,
+  redistributors_of,
+}
+pub use Rattle.acpi_c_lib.specs.Refusals.{
+  iommu_refusal,
+  plan_refusal,
+  sleep_refusal,
+}
 pub use Rattle.acpi_c_lib.specs.Regions.{
   Region,
   check_from,
@@ -361,46 +214,9 @@ pub use Rattle.acpi_c_lib.specs.Regions.{
   memory_of,
   region_of,
 }
-pub use Rattle.acpi_c_lib.specs.Riscv.{
-  aplic_in,
-  below_riscv,
-  imsic_in,
-  plic_in,
-  rintc_in,
-}
-pub use Rattle.acpi_c_lib.specs.Routes.{
-  AreWirings,
-  Interrupt,
-  apic_in,
-  below_known,
-  has_codes,
-  interrupt_record,
-  is_nearer,
-  isa_below,
-  isa_in,
-  isa_override_in,
-  last_override,
-  pin_below,
-  pin_in,
-  pin_or,
-  sci_below,
-  sci_in,
-  wirings_of,
-}
-unfoldable pub use Rattle.acpi_c_lib.specs.Routes.{known_platform}
 pub use Rattle.acpi_c_lib.specs.Shown.{
   aml_at,
   dsdt_below,
-  ecam_below,
-  ecam_ranges_below,
-  ecam_record,
-  hpet_below,
-  hpet_in,
-  hpet_shown,
-  hpets_below,
-  hpets_in,
-  pci_record,
-  pci_regions_below,
   root_below,
   signature_named,
   ssdt_in,
@@ -424,142 +240,17 @@ pub use Rattle.acpi_c_lib.specs.SkippedLaws.{
   skipped,
   skipped_by,
 }
-pub use Rattle.acpi_c_lib.specs.Types.{
-  Acpi,
-  AddressRange,
-  All,
-  AllByRecursion,
-  AreApart,
-  Bor,
-  EntryLayout,
-  Four,
-  Gives,
-  Grammar,
-  InterruptOverrideEntryHasInvalidBus,
-  InterruptSourceOverrideEntry,
-  InvalidEntryLength,
-  InvalidSratEntryLength,
-  IsAscending,
-  IsBytes,
-  IsEntry,
-  IsFirstIn,
-  IsFound,
-  IsMemory,
-  IsPartitionPoint,
-  IsRegion,
-  Keeps,
-  Lint0,
-  LocalInterruptLine,
-  MadtError,
-  MapFailed,
-  Memory,
-  NmiSourceEntry,
-  One,
-  Polarity,
-  ProcessorUid,
-  RiscvEntry,
-  SpcrContents,
-  Timer,
-  TriggerMode,
-  Two,
-  UnknownStart,
-  Width,
-  Writer,
-  after_one,
-  all_apics,
-  all_x2apics,
-  bits_of,
-  concat,
-  cons_option,
-  cut_of,
-  distributor_in,
-  each_left,
-  ecam_address,
-  end_of,
-  entries_left,
-  entries_of,
-  first_frames,
-  flags_fault,
-  frame_count,
-  frames_left,
-  frames_there,
-  has_bit,
-  is_of,
-  is_ok,
-  kind_of,
-  length_ranges,
-  lies_in,
-  line_of,
-  list_all,
-  list_any,
-  madt_grammar,
-  madt_layout,
-  mcfg_entries_left,
-  missing_left,
-  number_in,
-  override_fault,
-  pointers_left,
-  polarity_code,
-  processor_for,
-  rest_left,
-  result_err,
-  result_ok,
-  result_unwrap_or,
-  revision_of,
-  shown_in,
-  srat_grammar,
-  srat_layout,
-  timer_bytes,
-  timer_count,
-  timer_there,
-  timers_grammar,
-  timers_layout,
-  timers_offset,
-  trigger_code,
-  trigger_mode_of,
-  uid_code,
-  unless_fault,
-  watchdog_at,
-  with_entry,
-  ◌>>=◌,
-}
-unfoldable pub use Rattle.acpi_c_lib.specs.Types.{
-  at,
-  cut,
-  field_of,
-  fixed_list,
-  item_of,
-  rest_from,
-  rsdp_at,
-  spcr_written,
-  table_written,
-  word_in,
-}
 pub use Rattle.acpi_c_lib.specs.Walked.{
+  dsdt_and_facs_ranges,
   dsdt_range,
   facs_range,
-  led_ranges,
   nth_below,
   nth_in,
   range_in,
   ranges_below,
 }
-pub use Rattle.acpi_c_lib.specs.Writing.{
-  IsKeptOr,
-  TableIds,
-  WritesTable,
-  is_wiring,
-  writer_refused,
+pub use Rattle.acpi_c_lib.specs.declared.refusal.Refusal.TheVariants.{
+  Acpi,
+  UnknownStart,
+  Writer,
 }
-pub use Rattle.acpi_c_lib.specs.WrittenFadt.{facs_contents}
-pub use Rattle.acpi_c_lib.specs.WrittenMachine.{
-  dsdt_said,
-  facs_said,
-  machine_said,
-  size_said,
-  table_said,
-  tree_said,
-}
-pub use Rattle.acpi_c_lib.specs.declared.interrupt_records.Processor.{Processor}
-pub use Rattle.acpi_numa.specs.declared.srat.entry.SratEntry.{SratEntry}
-unfoldable pub use Rattle.acpi_writer.specs.Words.{facs_written}

@@ -1,8 +1,8 @@
 //! What isn't mapped of the RSDPs that a search comes to (section 5.2.5.1): each is tried as the search tries it.
 ghost use Rattle.std.specs.Prelude.{◌≡◌, ◌+◌, ◌*◌, ◌/◌, ◌<◌, ◌≤◌, ◌^◌, length, Err, IfErr};
-ghost use Rattle.acpi_c_lib.specs.Words.{is_ok, MapFailed, length_ranges, rsdp_at, word_in, Writes, put_from, areas_of, candidate_hole, candidate_holes, Fits, has_valid, last_range, no_areas, pieces, stretch, walk_holes};
+ghost use Rattle.acpi_c_lib.specs.Words.{is_ok, MapFailed, length_ranges, rsdp_at, word_in, Writes, put_from, areas_of, candidate_missing_range, candidate_missing_ranges, Fits, has_valid, last_range, no_areas, pieces, stretch, walk_missing_ranges};
 
-use crate::missing::{is_lent, put_pair, range, second_hole};
+use crate::missing::{is_lent, put_pair, range, second_range};
 use crate::opening::{ebda, ebda_segment};
 use crate::records::{Range, Source};
 use acpi::rsdp::{Rsdp, bios_areas, map_rsdp};
@@ -23,12 +23,12 @@ struct Areas {
 }
 
 /// Writes what isn't mapped of the candidates of a source's search, and returns the number of these ranges.
-pub(crate) fn candidate_holes<H: AcpiHandler>(
+pub(crate) fn candidate_missing_ranges<H: AcpiHandler>(
     handler: &H,
     source: &Source<'_>,
     out: &mut [Range],
 ) -> usize
-    ensures written { Writes result out.old out.new (candidate_holes (H.memory handler.now) source.now) }
+    ensures written { Writes result out.old out.new (candidate_missing_ranges (H.memory handler.now) source.now) }
     ensures few { result < 2 ^ 30 }
 {
     let areas = areas_of(handler, source);
@@ -40,7 +40,7 @@ pub(crate) fn candidate_holes<H: AcpiHandler>(
 }
 
 /// The candidates of a source's search. Another start has none.
-#[tactic(auto, using(crate::proofs::Unlent::ebda_fits, crate::proofs::Unlent::bios_fits))]
+#[tactic(auto, using(crate::proofs::Unmapped::ebda_fits, crate::proofs::Unmapped::bios_fits))]
 fn areas_of<H: AcpiHandler>(handler: &H, source: &Source<'_>) -> Areas
     ensures exact { result ≡ areas_of (H.memory handler.now) source.now }
     ensures first { Fits result.first }
@@ -70,7 +70,7 @@ fn no_areas() -> Areas
 }
 
 /// The candidates of the search that maps the word at 0x40e, and then each area in one piece with 16 bytes after it.
-#[tactic(auto, using(crate::proofs::Unlent::second_fits))]
+#[tactic(auto, using(crate::proofs::Unmapped::second_fits))]
 fn pieces<H: AcpiHandler>(handler: &H) -> Areas
     ensures exact { result ≡ pieces (H.memory handler.now) (word_in (H.memory handler.now)) }
     ensures first { Fits result.first }
@@ -82,7 +82,7 @@ fn pieces<H: AcpiHandler>(handler: &H) -> Areas
     if !is_lent(handler, 0xe0000, 0x20010) {
         return no_areas();
     }
-    let second = second_hole(word);
+    let second = second_range(word);
     let is_second = is_lent(handler, second.address, second.length as u32);
     Areas {
         first: Candidates {
@@ -101,7 +101,7 @@ fn pieces<H: AcpiHandler>(handler: &H) -> Areas
 }
 
 /// The candidates of an area as far as it is mapped.
-#[tactic(auto, using(crate::proofs::Unlent::first_is, crate::proofs::Unlent::count_is))]
+#[tactic(auto, using(crate::proofs::Unmapped::first_is, crate::proofs::Unmapped::count_is))]
 fn stretch(area: AddressRange) -> Candidates
     requires begins { area.address / 16 * 16 ≡ area.address }
     requires low { area.address + area.length ≤ 2 ^ 20 }
@@ -125,8 +125,9 @@ fn walk<H: AcpiHandler>(
     requires fits { Fits candidates }
     requires few { from < 2 ^ 20 }
     ensures written { out.new ≡ put_from out.old from
-        (walk_holes (H.memory handler.now) candidates.count candidates.first) }
-    ensures next { result.0 ≡ from + length (walk_holes (H.memory handler.now) candidates.count candidates.first) }
+        (walk_missing_ranges (H.memory handler.now) candidates.count candidates.first) }
+    ensures next { result.0 ≡ from + length (walk_missing_ranges
+        (H.memory handler.now) candidates.count candidates.first) }
     ensures most { result.0 ≤ from + candidates.count }
     ensures found { result.1 ≡ has_valid (H.memory handler.now) candidates.count candidates.first }
 {
@@ -134,9 +135,9 @@ fn walk<H: AcpiHandler>(
     let mut address = candidates.first;
     let mut left = candidates.count;
     while left > 0 {
-        match tried(handler, address) {
+        match try_candidate(handler, address) {
             Ok(()) => return (next, true),
-            Err(hole) => next = put_pair((hole, None), out, next),
+            Err(missing_range) => next = put_pair((missing_range, None), out, next),
         }
         address += 16;
         left -= 1;
@@ -146,32 +147,32 @@ fn walk<H: AcpiHandler>(
 
 /// Tries a candidate: whether it is valid, or else the range that its Length covers, if its first 36 bytes are mapped
 /// and that range isn't.
-#[tactic(auto, unfolding(crate::specs::Missing::candidate_hole))]
-fn tried<H: AcpiHandler>(handler: &H, address: u64) -> Result<(), Option<Range>>
+#[tactic(auto, unfolding(crate::specs::Missing::candidate_missing_range))]
+fn try_candidate<H: AcpiHandler>(handler: &H, address: u64) -> Result<(), Option<Range>>
     ensures valid { is_ok result ≡ is_ok (rsdp_at (H.memory handler.now) address) }
-    ensures hole { IfErr result (λ o. o ≡ candidate_hole (H.memory handler.now) address) }
+    ensures missing_range { IfErr result (λ o. o ≡ candidate_missing_range (H.memory handler.now) address) }
 {
     match map_rsdp(handler, address) {
         Ok(_rsdp) => Ok(()),
-        Err(AcpiError::MapFailed) => Err(length_hole(handler, address)),
+        Err(AcpiError::MapFailed) => Err(length_missing_range(handler, address)),
         Err(_) => Err(None),
     }
 }
 
 /// Of an RSDP that isn't mapped, the range that its Length covers, if its first 36 bytes are mapped.
-#[tactic(auto, using(crate::proofs::Unlent::length_said), unfolding(crate::specs::Missing::candidate_hole))]
-fn length_hole<H: AcpiHandler>(handler: &H, address: u64) -> Option<Range>
+#[tactic(auto, using(crate::proofs::Unmapped::length_said), unfolding(crate::specs::Missing::candidate_missing_range))]
+fn length_missing_range<H: AcpiHandler>(handler: &H, address: u64) -> Option<Range>
     requires { rsdp_at (H.memory handler.now) address ≡ Err MapFailed }
-    ensures { result ≡ candidate_hole (H.memory handler.now) address }
+    ensures { result ≡ candidate_missing_range (H.memory handler.now) address }
 {
     let Ok(rsdp) = PhysicalMapping::<'_, H, Rsdp>::map(handler, address, 36) else {
         return None;
     };
-    whole(address, rsdp.length())
+    range_of_length(address, rsdp.length())
 }
 
 /// The range of `length` bytes from an address, if there is a length.
-fn whole(address: u64, length: Option<u32>) -> Option<Range>
+fn range_of_length(address: u64, length: Option<u32>) -> Option<Range>
     ensures { result ≡ last_range (length_ranges address length) }
 {
     match length {

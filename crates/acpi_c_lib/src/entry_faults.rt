@@ -14,7 +14,7 @@ pub struct EntryFault {
 }
 
 /// An entry of a type, at an address, with its error.
-pub(crate) fn entry_fault(address: u64, entry_type: u16, error: Refusal) -> EntryFault
+pub fn entry_fault(address: u64, entry_type: u16, error: Refusal) -> EntryFault
     ensures { result ≡ entry_fault address entry_type error }
 {
     EntryFault {

@@ -106,7 +106,7 @@ fn looked_at<H: AcpiHandler>(
 }
 
 /// The least length of a table that a lookup of a signature takes.
-#[tactic(auto, using(crate::proofs::Unlent::same_signature), unfolding(crate::specs::Faults::least_named))]
+#[tactic(auto, using(crate::proofs::Unmapped::same_signature), unfolding(crate::specs::Faults::least_named))]
 fn least_named(signature: Signature) -> usize
     ensures value { result ≡ least_named signature }
     ensures least { 36 ≤ result }

@@ -1,53 +1,33 @@
 //! Laws of the definitions, each the contract of a call that does nothing.
-ghost use Rattle.acpi_base.specs.Words.{AcceptsNothing, AcceptsValid, KeepsNames, KeepsSums};
-ghost use Rattle.acpi_c_lib.specs.Words.{AcceptsAsReaders, ItemsAreAnswers, CandidatesHaveHoles, FaultsAreTheirs, LedHaveHoles, ListsAreModels, MembersHaveHoles, OpeningHasHole, RangesAreTheirs, RsdpEndsRanges, TakenEndsFaults};
+ghost use Rattle.acpi_base.specs.Words.{AcceptsValid, KeepsNames, KeepsSums};
+ghost use Rattle.acpi_c_lib.specs.Words.{CandidatesLackRanges, FaultsAreTheirs, DsdtAndFacsLackRanges, MembersLackRanges, OpeningLacksRange, RangesAreTheirs, RsdpEndsRanges, TakenEndsFaults};
 
 /// Each member of the root table that fails with `MapFailed` has a range among the ranges that
 /// `zacpi_list_missing_ranges` lists, and that range is in no one region.
-#[tactic(auto, using(crate::proofs::Unlent::own_unlent))]
+#[tactic(auto, using(crate::proofs::Unmapped::own_unmapped))]
 pub fn members_refused_have_ranges()
-    ensures { MembersHaveHoles }
+    ensures { MembersLackRanges }
 {}
 
 /// If the error of the DSDT or the FACS that a FADT points to is `MapFailed`, there is the range that
 /// `zacpi_list_missing_ranges` lists of it, and that range is in no one region.
-#[tactic(auto, using(crate::proofs::Unlent::accepted_unlent), unfolding(acpi::specs::Places::facs_at, acpi::specs::Places::facs_length))]
+#[tactic(auto, using(crate::proofs::Unmapped::accepted_unmapped), unfolding(acpi::specs::Places::facs_at, acpi::specs::Places::facs_length))]
 pub fn led_tables_have_ranges()
-    ensures { LedHaveHoles }
+    ensures { DsdtAndFacsLackRanges }
 {}
 
 /// If the error of a candidate of a search whose first 36 bytes are mapped is `MapFailed`, there is the range that
 /// `zacpi_list_missing_ranges` lists of it, and that range is in no one region.
-#[tactic(auto, using(crate::proofs::Unlent::rsdp_not, crate::proofs::Unlent::sum_not), unfolding(acpi::specs::Rsdp::rsdp_at, crate::specs::Missing::candidate_hole))]
+#[tactic(auto, using(crate::proofs::Unmapped::rsdp_not, crate::proofs::Unmapped::sum_not), unfolding(acpi::specs::Rsdp::rsdp_at, crate::specs::Missing::candidate_missing_range))]
 pub fn candidates_have_ranges()
-    ensures { CandidatesHaveHoles }
+    ensures { CandidatesLackRanges }
 {}
 
 /// If opening the tables fails with `MapFailed`, `zacpi_list_missing_ranges` lists a range, and that range is in no
 /// one region.
-#[tactic(auto, using(crate::proofs::Unlent::opening_unlent))]
+#[tactic(auto, using(crate::proofs::Unmapped::opening_unmapped))]
 pub fn a_refused_opening_has_a_range()
-    ensures { OpeningHasHole }
-{}
-
-/// Each item of `zacpi_get_isa_interrupts` is what `zacpi_get_isa_interrupt` returns for its number, and
-/// `zacpi_get_io_apic_pin` for the global system interrupt of that.
-#[tactic(auto, using(crate::proofs::IsaList::items_are_answers))]
-pub fn items_are_answers()
-    ensures { ItemsAreAnswers }
-{}
-
-/// Of a MADT none of whose entries is at fault, the lists of its entries are as in `PlatformInfo`.
-pub fn lists_are_models()
-    ensures { ListsAreModels }
-{}
-
-/// By an `accept` of 0 each call is that for valid tables, since each kind of tables is as it was, and the model is
-/// that of `PlatformInfo`.
-#[tactic(auto, using(acpi_base::proofs::Accepted::accepts_nothing, crate::proofs::Accepted::accepts_as_readers))]
-pub fn nothing_else_is_accepted()
-    ensures kinds { AcceptsNothing }
-    ensures readers { AcceptsAsReaders }
+    ensures { OpeningLacksRange }
 {}
 
 /// A table that is valid is accepted by any bits.

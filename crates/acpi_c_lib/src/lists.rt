@@ -5,7 +5,7 @@ ghost use Rattle.acpi_c_lib.specs.Answers.{Writes, put_from};
 ghost use Rattle.acpi_c_lib.specs.Listed.{ListsFirst};
 
 /// Writes an item at an index, if the capacity is above it.
-pub(crate) fn put<T: Copy>(out: &mut [T], index: usize, item: T)
+pub fn put<T: Copy>(out: &mut [T], index: usize, item: T)
     ensures { out.new ≡ slice_set out.old index item }
 {
     if index < out.len() {
@@ -14,7 +14,7 @@ pub(crate) fn put<T: Copy>(out: &mut [T], index: usize, item: T)
 }
 
 /// A walk along items of the library's, some of which have a record for C, by what else is to be known.
-pub(crate) trait Listing<C, R>: Iterator {
+pub trait Listing<C, R>: Iterator {
     // The record of an item, if it has one.
     ghost record_of: { C → Self.Item → Option R };
 
@@ -31,7 +31,7 @@ pub(crate) trait Listing<C, R>: Iterator {
 }
 
 /// Writes the records of a walk's items from an index on, and returns the next index.
-pub(crate) fn fill_from<R: Copy, C, W: Listing<C, R>>(
+pub fn fill_from<R: Copy, C, W: Listing<C, R>>(
     walk: W,
     known: &C,
     out: &mut [R],
@@ -53,7 +53,7 @@ pub(crate) fn fill_from<R: Copy, C, W: Listing<C, R>>(
 }
 
 /// Writes the records of a walk's items from the `from`-th on, counted from 0, and counts all.
-pub(crate) fn fill_part<R: Copy, C, W: Listing<C, R>>(
+pub fn fill_part<R: Copy, C, W: Listing<C, R>>(
     walk: W,
     known: &C,
     from: usize,
@@ -77,7 +77,7 @@ pub(crate) fn fill_part<R: Copy, C, W: Listing<C, R>>(
 }
 
 /// Writes the records of a walk's items, and counts them.
-pub(crate) fn fill<R: Copy, C, W: Listing<C, R>>(walk: W, known: &C, out: &mut [R]) -> usize
+pub fn fill<R: Copy, C, W: Listing<C, R>>(walk: W, known: &C, out: &mut [R]) -> usize
     requires goes_on { W.can_next walk × IsFinite (W.remaining walk) }
     requires few { length (W.left known.now walk) < 2 ^ 63 }
     ensures { Writes result out.old out.new (W.left known.now walk) }

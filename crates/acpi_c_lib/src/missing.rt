@@ -5,16 +5,16 @@ ghost use Rattle.acpi_base.specs.Words.{accepted, lent, plain_kind, table_at};
 ghost use Rattle.acpi_fixed.specs.Words.{dsdt_address_of, viewed};
 ghost use Rattle.acpi.specs.Types.{MapFailed};
 ghost use Rattle.acpi.specs.Words.{rsdp_at, rsdp_ranges, search_ranges, facs_place, facs_place_ranges, pointers_left, found_rsdp, room_of, second_area};
-ghost use Rattle.acpi_c_lib.specs.Words.{Fills, items_said, put_from, result_map, dsdt_hole, opened_in, hole, last_range, member_hole, unlent, missing_below, missing_in, opening_hole, range_of, rsdp_hole, rsdp_in, table_hole, Acpi, lists_some};
+ghost use Rattle.acpi_c_lib.specs.Words.{Fills, items_said, put_from, result_map, dsdt_missing_range, opened_in, missing_range, last_range, member_missing_range, unmapped_range, missing_below, missing_in, opening_missing_range, range_of, rsdp_missing_range, rsdp_in, table_missing_range, Acpi, lists_some};
 
-use crate::candidates::candidate_holes;
+use crate::candidates::candidate_missing_ranges;
 use crate::lists::{Listing, fill_from, put};
 use crate::opening::{check_policy, find_fadt, open, root_pointer};
 use crate::records::{Range, Source};
 use crate::refusal::Refusal;
 use crate::regions::Mapped;
 use acpi::fadt::FadtView;
-use acpi::rsdp::Rsdp;
+use acpi::rsdp::{Rsdp, second_area};
 use acpi::sdt::{SdtHeader, Signature};
 use acpi::{AcpiError, AcpiHandler, PhysicalMapping, PhysicalRecord, Pointers, facs_length};
 use acpi_base::table::{own_valid_by, valid_by};
@@ -25,7 +25,7 @@ pub fn missing(source: &Source<'_>, out: &mut [Range]) -> Result<usize, Refusal>
 {
     let memory = Mapped::new(source.regions)?;
     check_policy(source)?;
-    let from = candidate_holes(&memory, source, out);
+    let from = candidate_missing_ranges(&memory, source, out);
     others(&memory, source, out, from)
 }
 
@@ -45,24 +45,24 @@ fn others<H: AcpiHandler>(
 {
     match open(handler, source) {
         Ok(tables) => {
-            let led = match find_fadt(&tables) {
+            let dsdt_and_facs = match find_fadt(&tables) {
                 Ok(fadt) => (
-                    dsdt_hole(handler, source.accept, &fadt),
-                    facs_hole(handler, &fadt),
+                    dsdt_missing_range(handler, source.accept, &fadt),
+                    facs_missing_range(handler, &fadt),
                 ),
                 Err(_) => (None, None),
             };
             let accept = source.accept;
             Ok(fill_with(
                 tables.addresses(),
-                &Unlent { handler, accept },
-                led,
+                &Unmapped { handler, accept },
+                dsdt_and_facs,
                 out,
                 from,
             ))
         }
         Err(Refusal::Acpi(_)) => {
-            let refused = opening_hole(handler, source);
+            let refused = opening_missing_range(handler, source);
             Ok(put_pair((refused, None), out, from))
         }
         Err(refusal) => Err(refusal),
@@ -91,27 +91,28 @@ pub(crate) fn fill_with<C, W: Listing<C, Range>>(
 
 /// The memory in which tables are looked up, and what is accepted of them, to list what isn't mapped.
 #[derive(Drop)]
-struct Unlent<'h, H: AcpiHandler> {
+struct Unmapped<'h, H: AcpiHandler> {
     handler: &'h H,
     accept: u32,
 }
 
-impl<H: AcpiHandler> Listing<Unlent<'_, H>, Range> for Pointers<'_> {
+impl<H: AcpiHandler> Listing<Unmapped<'_, H>, Range> for Pointers<'_> {
     ghost use Rattle.std.specs.Prelude.{filter_map};
 
-    ghost record_of = { λ u p. member_hole u.accept (H.memory u.handler.now) p };
+    ghost record_of = { λ u p. member_missing_range u.accept (H.memory u.handler.now) p };
 
-    ghost left = { λ u s. filter_map (member_hole u.accept (H.memory u.handler.now)) (pointers_left s) };
+    ghost left = { λ u s. filter_map (member_missing_range u.accept (H.memory u.handler.now)) (pointers_left s) };
 
-    ghost gives_first = { λ u. lists_some (member_hole u.accept (H.memory u.handler.now))
+    ghost gives_first = { λ u. lists_some (member_missing_range u.accept (H.memory u.handler.now))
         (λ s. pointers_left s) };
 
     /// The unmapped range because of which a member of the root table fails.
-    fn record(unlent: &Unlent<'_, H>, address: u64) -> Option<Range>
-        ensures { let u = unlent.now in result ≡ member_hole u.accept (H.memory u.handler.now) address }
+    fn record(unmapped_range: &Unmapped<'_, H>, address: u64) -> Option<Range>
+        ensures { let u = unmapped_range.now in result
+            ≡ member_missing_range u.accept (H.memory u.handler.now) address }
     {
-        match own_valid_by(unlent.handler, address, unlent.accept) {
-            Err(AcpiError::MapFailed) => Some(table_hole(unlent.handler, address)),
+        match own_valid_by(unmapped_range.handler, address, unmapped_range.accept) {
+            Err(AcpiError::MapFailed) => Some(table_missing_range(unmapped_range.handler, address)),
             Err(_) => None,
             Ok(table) => {
                 table.mapping::<SdtHeader>();
@@ -162,8 +163,8 @@ pub(crate) fn is_lent<H: AcpiHandler>(handler: &H, address: u64, length: u32) ->
 }
 
 /// The unmapped range of a table of any signature: its header, or the bytes of the header's Length (section 5.2.6).
-fn table_hole<H: AcpiHandler>(handler: &H, address: u64) -> Range
-    ensures { result ≡ unlent address (lent (H.memory handler.now) address 36) }
+fn table_missing_range<H: AcpiHandler>(handler: &H, address: u64) -> Range
+    ensures { result ≡ unmapped_range address (lent (H.memory handler.now) address 36) }
 {
     match PhysicalMapping::<'_, H, SdtHeader>::map(handler, address, 36) {
         Ok(head) => range(address, head.length),
@@ -172,17 +173,17 @@ fn table_hole<H: AcpiHandler>(handler: &H, address: u64) -> Range
 }
 
 /// The unmapped range because of which the table at an address fails under a signature.
-fn hole_at<H: AcpiHandler>(
+fn missing_range_at<H: AcpiHandler>(
     handler: &H,
     accept: u32,
     address: u64,
     signature: Signature,
 ) -> Option<Range>
     ensures { let m = H.memory handler.now in
-        result ≡ table_hole m address (table_at m (accepted accept (plain_kind signature)) address) }
+        result ≡ table_missing_range m address (table_at m (accepted accept (plain_kind signature)) address) }
 {
     match valid_by(handler, address, signature, SdtHeader::MIN_LENGTH, accept) {
-        Err(AcpiError::MapFailed) => Some(table_hole(handler, address)),
+        Err(AcpiError::MapFailed) => Some(table_missing_range(handler, address)),
         Err(_) => None,
         Ok(table) => {
             table.mapping::<SdtHeader>();
@@ -192,18 +193,22 @@ fn hole_at<H: AcpiHandler>(
 }
 
 /// The unmapped range because of which the DSDT that a FADT points to fails (section 5.2.11.1).
-fn dsdt_hole<H: AcpiHandler>(handler: &H, accept: u32, fadt: &FadtView<'_, H>) -> Option<Range>
-    ensures { result ≡ dsdt_hole accept (H.memory handler.now) (dsdt_address_of (viewed fadt.now)) }
+fn dsdt_missing_range<H: AcpiHandler>(
+    handler: &H,
+    accept: u32,
+    fadt: &FadtView<'_, H>,
+) -> Option<Range>
+    ensures { result ≡ dsdt_missing_range accept (H.memory handler.now) (dsdt_address_of (viewed fadt.now)) }
 {
-    hole_at(handler, accept, fadt.dsdt_address().ok()?, Signature::DSDT)
+    missing_range_at(handler, accept, fadt.dsdt_address().ok()?, Signature::DSDT)
 }
 
 /// The unmapped range because of which the FACS that a FADT points to fails: its first 36 bytes, or the bytes of its
 /// Length (section 5.2.10).
-#[tactic(auto, using(crate::proofs::Unlent::no_hole), unfolding(acpi::specs::Places::facs_at, acpi::specs::Places::facs_length))]
-fn facs_hole<H: AcpiHandler>(handler: &H, fadt: &FadtView<'_, H>) -> Option<Range>
+#[tactic(auto, using(crate::proofs::Unmapped::no_missing_range), unfolding(acpi::specs::Places::facs_at, acpi::specs::Places::facs_length))]
+fn facs_missing_range<H: AcpiHandler>(handler: &H, fadt: &FadtView<'_, H>) -> Option<Range>
     ensures { let m = H.memory handler.now in
-        result ≡ hole (facs_place m (viewed fadt.now)) (facs_place_ranges m (viewed fadt.now)) }
+        result ≡ missing_range (facs_place m (viewed fadt.now)) (facs_place_ranges m (viewed fadt.now)) }
 {
     let address = fadt.facs_address().ok()?;
     let Ok(head) = PhysicalMapping::<'_, H, SdtHeader>::map(handler, address, 36) else {
@@ -217,33 +222,35 @@ fn facs_hole<H: AcpiHandler>(handler: &H, fadt: &FadtView<'_, H>) -> Option<Rang
 }
 
 /// The unmapped range because of which opening fails: the root table, or what is to point to it.
-fn opening_hole<H: AcpiHandler>(handler: &H, source: &Source<'_>) -> Option<Range>
-    ensures { result ≡ opening_hole (H.memory handler.now) source.now }
+fn opening_missing_range<H: AcpiHandler>(handler: &H, source: &Source<'_>) -> Option<Range>
+    ensures { result ≡ opening_missing_range (H.memory handler.now) source.now }
 {
     match root_pointer(handler, source) {
-        Ok((root, _)) => { hole_at(handler, source.accept, root.address, root.kind.signature()) }
-        Err(Refusal::Acpi(AcpiError::MapFailed)) => rsdp_hole(handler, source),
+        Ok((root, _)) => {
+            missing_range_at(handler, source.accept, root.address, root.kind.signature())
+        }
+        Err(Refusal::Acpi(AcpiError::MapFailed)) => rsdp_missing_range(handler, source),
         Err(_) => None,
     }
 }
 
 /// The unmapped range because of which the RSDP fails, or the search for it that needs its areas mapped whole
 /// (sections 5.2.5.1 and 5.2.5.3).
-fn rsdp_hole<H: AcpiHandler>(handler: &H, source: &Source<'_>) -> Option<Range>
+fn rsdp_missing_range<H: AcpiHandler>(handler: &H, source: &Source<'_>) -> Option<Range>
     requires { rsdp_in (H.memory handler.now) source.now ≡ Err (Acpi MapFailed) }
-    ensures { result ≡ rsdp_hole (H.memory handler.now) source.now MapFailed }
+    ensures { result ≡ rsdp_missing_range (H.memory handler.now) source.now MapFailed }
 {
     match source.start {
-        0 => Some(own_hole(handler, source.address)),
-        3 => Some(search_hole(handler)),
+        0 => Some(own_missing_range(handler, source.address)),
+        3 => Some(search_missing_range(handler)),
         _ => None,
     }
 }
 
 /// The unmapped range because of which the RSDP at an address fails: its first 36 bytes, or the bytes of its Length
 /// (section 5.2.5.3).
-#[tactic(auto, using(crate::proofs::Unlent::rsdp_not, crate::proofs::Unlent::rsdp_length, crate::proofs::Unlent::sum_not), unfolding(acpi::specs::Rsdp::rsdp_at))]
-fn own_hole<H: AcpiHandler>(handler: &H, address: u64) -> Range
+#[tactic(auto, using(crate::proofs::Unmapped::rsdp_not, crate::proofs::Unmapped::rsdp_length, crate::proofs::Unmapped::sum_not), unfolding(acpi::specs::Rsdp::rsdp_at))]
+fn own_missing_range<H: AcpiHandler>(handler: &H, address: u64) -> Range
     requires { rsdp_at (H.memory handler.now) address ≡ Err MapFailed }
     ensures { last_range (rsdp_ranges (H.memory handler.now) address) ≡ Some result }
 {
@@ -257,8 +264,8 @@ fn own_hole<H: AcpiHandler>(handler: &H, address: u64) -> Range
 /// The unmapped range because of which the search fails: the word at 0x40e, which is the segment of the extended BIOS
 /// data area (EBDA), or the first area, 0xe0000..0x100000, or the second one, each with 16 bytes after it (section
 /// 5.2.5.1).
-#[tactic(auto, using(crate::proofs::Unlent::search_refused))]
-fn search_hole<H: AcpiHandler>(handler: &H) -> Range
+#[tactic(auto, using(crate::proofs::Unmapped::search_refused))]
+fn search_missing_range<H: AcpiHandler>(handler: &H) -> Range
     requires { found_rsdp (H.memory handler.now) ≡ Err MapFailed }
     ensures { last_range (search_ranges (H.memory handler.now)) ≡ Some result }
 {
@@ -268,18 +275,13 @@ fn search_hole<H: AcpiHandler>(handler: &H) -> Range
     if !is_lent(handler, 0xe0000, 0x20010) {
         return range(0xe0000, 0x20010);
     }
-    second_hole(*word.get())
+    second_range(*word.get())
 }
 
-/// The second area with 16 bytes after it: the EBDA's first 1024 bytes, or, if its address is under 0x80000 or is
-/// 0x9ffff or above, 0x80000..0xa0000 (section 5.2.5.1).
-pub(crate) fn second_hole(word: u16) -> Range
+/// The area that a search looks at second, with the 16 bytes after it (section 5.2.5.1).
+pub(crate) fn second_range(word: u16) -> Range
     ensures { let area = second_area word in result ≡ range_of (area.start, room_of area) }
 {
-    let start = 16 * word as u64;
-    if start >= 0x80000 && start < 0x9ffff {
-        range(start, 1040)
-    } else {
-        range(0x80000, 0x20010)
-    }
+    let area = second_area(word);
+    range(area.start, (area.end - area.start + 16) as u32)
 }

@@ -19,7 +19,7 @@ use acpi_base::table::ValidTable;
 /// The tables of a source, by what it accepts.
 ///
 /// Fails as `check_policy` and `root_pointer` do, and with the error of the table there.
-pub(crate) fn open<'h, H: AcpiHandler>(
+pub fn open<'h, H: AcpiHandler>(
     handler: &'h H,
     source: &Source<'_>,
 ) -> Result<AcpiTables<'h, H, Accept>, Refusal>
@@ -164,7 +164,7 @@ fn first_of<'h, 'k>(
 ///
 /// Fails as `first_of` does.
 #[tactic(auto, using(crate::proofs::Found::bytes_found, crate::proofs::Found::no_bytes))]
-pub(crate) fn first<'h, 'k, T: SdtTable>(
+pub fn first<'h, 'k, T: SdtTable>(
     memory: &'h Result<Mapped<'k>, Refusal>,
     source: &Source<'_>,
 ) -> Result<PhysicalMapping<'h, Mapped<'k>, T>, Refusal>
@@ -184,7 +184,7 @@ pub(crate) fn first<'h, 'k, T: SdtTable>(
 ///
 /// Fails as `first_of` does.
 #[tactic(auto, using(crate::proofs::Found::bytes_found, crate::proofs::Found::no_bytes))]
-pub(crate) fn first_fadt<'h, 'k>(
+pub fn first_fadt<'h, 'k>(
     memory: &'h Result<Mapped<'k>, Refusal>,
     source: &Source<'_>,
 ) -> Result<FadtView<'h, Mapped<'k>>, Refusal>
@@ -201,7 +201,7 @@ pub(crate) fn first_fadt<'h, 'k>(
 /// links no other.
 ///
 /// Fails as `AcpiTables::find_bytes` does.
-pub(crate) fn find_fadt<'h, H: AcpiHandler>(
+pub fn find_fadt<'h, H: AcpiHandler>(
     tables: &AcpiTables<'h, H, Accept>,
 ) -> AcpiResult<FadtView<'h, H>>
     ensures handler { IfOk result (λ v. handler_of v.mapping ≡ lender_of tables.now) }

@@ -1,12 +1,13 @@
 //! Why a call fails, the number that C gets for it, and the signature that it carries.
 ghost use Rattle.std.specs.Prelude.{◌≡◌};
 ghost use Rattle.acpi_c_lib.specs.Codes as codes;
-ghost use Rattle.acpi_c_lib.specs.Words.{Acpi, Writer, plan_refusal, sleep_refusal};
+ghost use Rattle.acpi_c_lib.specs.Words.{Acpi, Writer, iommu_refusal, plan_refusal, sleep_refusal};
 
 use acpi::sdt::Signature;
 use acpi::{AcpiError, MadtError};
+use acpi_iommu::IommuError;
 use acpi_sleep::{PlanError, SleepError};
-use acpi_writer::WriterError;
+use acpi_table_writer::WriterError;
 
 /// Why a call fails. `enum zacpi_status_code` of `include/zacpi.h` has what each error means.
 #[derive(Clone, Copy)]
@@ -72,6 +73,17 @@ impl From<SleepError> for Refusal {
             SleepError::NoSuchState => Refusal::NoSuchState,
             SleepError::Aml(signature, _) => Refusal::AmlInvalid(signature),
             SleepError::Acpi(error) => Refusal::Acpi(error),
+        }
+    }
+}
+
+impl From<IommuError> for Refusal {
+    ghost from_gives = { λ error e. e ≡ iommu_refusal error };
+
+    fn from(error: IommuError) -> Refusal {
+        match error {
+            IommuError::InvalidStructureLength => Refusal::InvalidIommuStructureLength,
+            IommuError::InvalidMemoryRange => Refusal::InvalidIommuMemoryRange,
         }
     }
 }

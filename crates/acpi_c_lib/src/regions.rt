@@ -139,7 +139,7 @@ fn check(regions: &[Region<'_>]) -> Result<(), Refusal>
 
 /// Regions that are a memory.
 #[derive(Clone, Copy, Drop)]
-pub(crate) struct Mapped<'k> {
+pub struct Mapped<'k> {
     regions: &'k [Region<'k>],
     ghost ascending: { IsAscending (memory_of regions.now) } by { IsAscending-prop _ },
     ghost disjoint: { IsMemory (memory_of regions.now) } by { IsMemory-prop _ },
@@ -151,7 +151,7 @@ impl<'k> Mapped<'k> {
     /// The memory of these regions.
     ///
     /// Fails as `check` does.
-    pub(crate) fn new(regions: &'k [Region<'k>]) -> Result<Mapped<'k>, Refusal>
+    pub fn new(regions: &'k [Region<'k>]) -> Result<Mapped<'k>, Refusal>
         ensures { Gives (λ m. mapped_memory m) result (memory_in regions.now) }
     {
         check(regions)?;

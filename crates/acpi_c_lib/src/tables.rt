@@ -80,8 +80,8 @@ pub fn table_there(source: &Source<'_>, address: u64) -> Result<Table, Refusal>
 }
 
 /// The signature of four letters.
-#[tactic(auto, using(crate::proofs::Unlent::signature_is))]
-pub(crate) fn signature_named(name: records::Signature) -> Signature
+#[tactic(auto, using(crate::proofs::Unmapped::signature_is))]
+pub fn signature_named(name: records::Signature) -> Signature
     ensures { result ≡ signature_named name }
 {
     Signature::from_bytes(name.letters)

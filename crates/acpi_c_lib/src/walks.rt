@@ -4,7 +4,7 @@ ghost use Rattle.std.specs.Prelude.{◌≡◌, filter_map};
 ghost use Rattle.acpi.specs.Words.{accept_of, accepted_by, fadt_kind, lender_of, memory_of, pointers_left, pointers_of};
 ghost use Rattle.acpi.specs.Lookup as reader;
 ghost use Rattle.acpi_fixed.specs.Words.{viewed};
-ghost use Rattle.acpi_c_lib.specs.Words.{Fills, dsdt_range, facs_range, led_ranges, nth_below, nth_in, range_in, ranges_below, lists_some};
+ghost use Rattle.acpi_c_lib.specs.Words.{Fills, dsdt_range, facs_range, dsdt_and_facs_ranges, nth_below, nth_in, range_in, ranges_below, lists_some};
 
 use crate::facs::facs_at;
 use crate::lists::Listing;
@@ -63,8 +63,8 @@ pub fn ranges(source: &Source<'_>, out: &mut [Range]) -> Result<usize, Refusal>
     };
     let root = range(tables.root_address(), tables.root_length());
     let after_root = put_pair((rsdp, Some(root)), out, 0);
-    let led = led_ranges(&memory, &tables);
-    Ok(fill_with(tables.addresses(), &tables, led, out, after_root))
+    let dsdt_and_facs = dsdt_and_facs_ranges(&memory, &tables);
+    Ok(fill_with(tables.addresses(), &tables, dsdt_and_facs, out, after_root))
 }
 
 /// The range of a member of the root table, if it is accepted under its own signature.
@@ -84,12 +84,12 @@ impl<H: AcpiHandler> Listing<AcpiTables<'_, H, Accept>, Range> for Pointers<'_> 
 }
 
 /// The ranges of the DSDT and the FACS that the first accepted FADT points to.
-fn led_ranges<H: AcpiHandler>(
+fn dsdt_and_facs_ranges<H: AcpiHandler>(
     handler: &H,
     tables: &AcpiTables<'_, H, Accept>,
 ) -> (Option<Range>, Option<Range>)
     requires { lender_of tables.now ≡ handler.now }
-    ensures { let t = tables.now in result ≡ led_ranges (accept_of t) (memory_of t)
+    ensures { let t = tables.now in result ≡ dsdt_and_facs_ranges (accept_of t) (memory_of t)
         (reader.lookup (memory_of t) (accepted_by t fadt_kind) (pointers_of t)) }
 {
     match find_fadt(tables) {

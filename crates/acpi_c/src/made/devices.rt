@@ -1,13 +1,15 @@
 //! Made by scripts/exports of include/zacpi.h, which has what each call does.
-ghost use Rattle.acpi_c_lib.specs.Words.{Answers, AnswersList, console_below, facs_below, fixed_below, graphic_below, hpet_below, hpets_below, timer_below};
+ghost use Rattle.acpi_c_devices.specs.Words.{console_below, fixed_below, graphic_below, hpet_below, hpets_below, timer_below};
+ghost use Rattle.acpi_c_lib.specs.Words.{Answers, AnswersList, facs_below};
 
+use acpi_c_devices::console::console;
+use acpi_c_devices::devices::{graphic, hpet, hpets, timer};
+use acpi_c_devices::fixed::fixed;
+use acpi_c_devices::fixed::records::{Console, FixedHardware};
+use acpi_c_devices::records::{BootGraphic, HpetInfo, PmTimer};
 use acpi_c_lib::answer::answer;
-use acpi_c_lib::console::console;
-use acpi_c_lib::devices::{graphic, hpet, hpets, timer};
 use acpi_c_lib::facs::facs;
-use acpi_c_lib::fixed::fixed;
-use acpi_c_lib::fixed_records::{Console, FixedHardware};
-use acpi_c_lib::records::{BootGraphic, Facs, HpetInfo, PmTimer, Signature, Source};
+use acpi_c_lib::records::{Facs, Signature, Source};
 
 /// Returns the fixed hardware of the FADT.
 #[unsafe(no_mangle)]

@@ -1,11 +1,12 @@
 //! Made by scripts/exports of include/zacpi.h, which has what each call does.
-ghost use Rattle.acpi_c_lib.specs.Words.{Answers, AnswersList, AnswersListFrom, below_gic, cpu_interfaces_shown, distributor_below, msi_frames_shown, redistributors_shown, translation_services_shown};
+ghost use Rattle.acpi_c_interrupts.specs.Words.{below_gic, cpu_interfaces_shown, distributor_below, msi_frames_shown, redistributors_shown, translation_services_shown};
+ghost use Rattle.acpi_c_lib.specs.Words.{Answers, AnswersList, AnswersListFrom};
 
-use acpi_c_lib::answer::answer;
-use acpi_c_lib::arm_records::{
+use acpi_c_interrupts::arm::gic::{distributor, parts, parts_from};
+use acpi_c_interrupts::arm::records::{
     GicCpuInterface, GicDistributor, GicMsiFrame, GicTranslationService,
 };
-use acpi_c_lib::gic::{distributor, parts, parts_from};
+use acpi_c_lib::answer::answer;
 use acpi_c_lib::records::{Range, Signature, Source};
 
 /// Returns the distributor of the first GICD.

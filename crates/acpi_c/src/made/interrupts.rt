@@ -1,21 +1,22 @@
 //! Made by scripts/exports of include/zacpi.h, which has what each call does.
-ghost use Rattle.acpi_c_lib.specs.Words.{Answers, AnswersList, AnswersListFrom, AtSamePlaces, CountsBeside, below_apics, below_known, below_platform, counts_of, io_apic_in, isa_below, isa_list_below, items_beside, local_apic_below, madt_faults_below, mailbox_below, nmi_line_in, nmi_source_in, override_in, pin_below, processors_below, put_from, sci_below};
+ghost use Rattle.acpi_c_interrupts.specs.Words.{AtSamePlaces, CountsBeside, below_apics, below_known, below_platform, counts_of, io_apic_in, isa_below, isa_list_below, local_apic_below, madt_faults_below, mailbox_below, nmi_line_in, nmi_source_in, override_in, pin_below, processors_below, sci_below};
+ghost use Rattle.acpi_c_lib.specs.Words.{Answers, AnswersList, AnswersListFrom, items_beside, put_from};
 ghost use Rattle.std.specs.Prelude.{filter_map, ◌≡◌};
 
-use acpi_c_lib::answer::answer;
-use acpi_c_lib::apics::{entries, mailbox, processors, processors_from};
-use acpi_c_lib::entry_faults::EntryFault;
-use acpi_c_lib::interrupt_records::{
+use acpi_c_interrupts::apics::local_apic::local_apic;
+use acpi_c_interrupts::apics::model::model;
+use acpi_c_interrupts::apics::platform::platform;
+use acpi_c_interrupts::apics::records::{
     Interrupt, InterruptModel, InterruptSourceOverride, IoApic, IoApicPin, IsaInterrupts,
     LocalApic, NmiLine, NmiSource, PlatformLists, Processor,
 };
-use acpi_c_lib::isa_list::isa_interrupts;
-use acpi_c_lib::local_apic::local_apic;
-use acpi_c_lib::madt_faults::madt_faults;
-use acpi_c_lib::platform::platform;
-use acpi_c_lib::processors::model;
+use acpi_c_interrupts::apics::{entries, mailbox, processors, processors_from};
+use acpi_c_interrupts::madt_faults::madt_faults;
+use acpi_c_interrupts::routes::isa_list::isa_interrupts;
+use acpi_c_interrupts::routes::{isa, pin, sci};
+use acpi_c_lib::answer::answer;
+use acpi_c_lib::entry_faults::EntryFault;
 use acpi_c_lib::records::{Signature, Source};
-use acpi_c_lib::routes::{isa, pin, sci};
 
 /// Returns which controllers interrupts come to, and how many items the lists of zacpi_get_platform have.
 #[unsafe(no_mangle)]

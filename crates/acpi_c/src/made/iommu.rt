@@ -1,18 +1,19 @@
 //! Made by scripts/exports of include/zacpi.h, which has what each call does.
-ghost use Rattle.acpi_c_lib.specs.Words.{Answers, AnswersList, below_dmar, below_ivrs, dmar_affinity_shown, dmar_faults_below, dmar_flags_below, dmar_hpet_below, dmar_io_apic_below, dmar_reserved_below, dmar_scopes_below, dmar_unit_below, drhd_shown, ivhd_shown, ivmd_shown, ivrs_entries_below, ivrs_faults_below, ivrs_memory_below, ivrs_unit_below, rmrr_shown, root_ports_shown, structure_scopes_below};
+ghost use Rattle.acpi_c_devices.specs.Words.{below_dmar, below_ivrs, dmar_affinity_shown, dmar_faults_below, dmar_flags_below, dmar_hpet_below, dmar_io_apic_below, dmar_reserved_below, dmar_scopes_below, dmar_unit_below, drhd_shown, ivhd_shown, ivmd_shown, ivrs_entries_below, ivrs_faults_below, ivrs_memory_below, ivrs_unit_below, rmrr_shown, root_ports_shown, structure_scopes_below};
+ghost use Rattle.acpi_c_lib.specs.Words.{Answers, AnswersList};
 
-use acpi_c_lib::answer::answer;
-use acpi_c_lib::entry_faults::EntryFault;
-use acpi_c_lib::iommu::{
-    dmar_flags, dmar_hpet, dmar_io_apic, dmar_reserved, dmar_unit, ivrs_memory, ivrs_unit,
-};
-use acpi_c_lib::iommu_faults::{dmar_faults, ivrs_faults};
-use acpi_c_lib::iommu_lists::{dmar_scopes, dmar_structure_scopes, ivrs_entries};
-use acpi_c_lib::iommu_records::{
+use acpi_c_devices::iommu::faults::{dmar_faults, ivrs_faults};
+use acpi_c_devices::iommu::lists::{dmar_scopes, dmar_structure_scopes, ivrs_entries};
+use acpi_c_devices::iommu::records::{
     DmarAffinity, DmarFlags, DmarReserved, DmarRootPorts, DmarScope, DmarSource, DmarUnit, Hop,
     IvrsDevice, IvrsEntry, IvrsMemory, IvrsUnit,
 };
-use acpi_c_lib::iommu_regions::{dmar_structures, ivrs_blocks};
+use acpi_c_devices::iommu::regions::{dmar_structures, ivrs_blocks};
+use acpi_c_devices::iommu::{
+    dmar_flags, dmar_hpet, dmar_io_apic, dmar_reserved, dmar_unit, ivrs_memory, ivrs_unit,
+};
+use acpi_c_lib::answer::answer;
+use acpi_c_lib::entry_faults::EntryFault;
 use acpi_c_lib::records::{Signature, Source};
 
 /// Returns what the DMAR states for all units (section 8.1).

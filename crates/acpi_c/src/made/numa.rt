@@ -1,17 +1,18 @@
 //! Made by scripts/exports of include/zacpi.h, which has what each call does.
-ghost use Rattle.acpi_c_lib.specs.Words.{Answers, AnswersList, AnswersListFrom, AnswersSome, IsLocalities, affinity_shown, below_srat, distance_below, domain_of_address_below, domain_of_apic_below, domain_of_processor_below, initiator_shown, its_shown, memory_shown, slit_in, srat_faults_below};
+ghost use Rattle.acpi_c_devices.specs.Words.{IsLocalities, affinity_shown, below_srat, distance_below, domain_of_address_below, domain_of_apic_below, domain_of_processor_below, initiator_shown, its_shown, memory_shown, slit_in, srat_faults_below};
+ghost use Rattle.acpi_c_lib.specs.Words.{Answers, AnswersList, AnswersListFrom, AnswersSome};
 
-use acpi_c_lib::affinities::{srat_entries, srat_entries_from};
-use acpi_c_lib::answer::answer;
-use acpi_c_lib::entry_faults::EntryFault;
-use acpi_c_lib::numa::{
-    distance, domain_of_address, domain_of_apic, domain_of_processor, localities,
-};
-use acpi_c_lib::numa_records::{
+use acpi_c_devices::numa::affinities::{srat_entries, srat_entries_from};
+use acpi_c_devices::numa::faults::srat_faults;
+use acpi_c_devices::numa::records::{
     GenericInitiator, ItsAffinity, Localities, MemoryAffinity, ProcessorAffinity,
 };
+use acpi_c_devices::numa::{
+    distance, domain_of_address, domain_of_apic, domain_of_processor, localities,
+};
+use acpi_c_lib::answer::answer;
+use acpi_c_lib::entry_faults::EntryFault;
 use acpi_c_lib::records::{Signature, Source};
-use acpi_c_lib::srat_faults::srat_faults;
 
 /// Lists the memory that the SRAT puts into domains: its Memory Affinity entries that are enabled, have a byte, and end
 /// below 2^64, up to where no entry begins.

@@ -1,10 +1,12 @@
 //! Made by scripts/exports of include/zacpi.h, which has what each call does.
-ghost use Rattle.acpi_c_lib.specs.Words.{Answers, AnswersList, ecam_below, ecam_ranges_below, pci_regions_below};
+ghost use Rattle.acpi_c_devices.specs.Words.{ecam_below, ecam_ranges_below, pci_regions_below};
+ghost use Rattle.acpi_c_lib.specs.Words.{Answers, AnswersList};
 
+use acpi_c_devices::fixed::records::EcamRange;
+use acpi_c_devices::pci::{ecam_address, ecam_ranges, pci_regions};
+use acpi_c_devices::records::PciRegion;
 use acpi_c_lib::answer::answer;
-use acpi_c_lib::fixed_records::EcamRange;
-use acpi_c_lib::pci::{ecam_address, ecam_ranges, pci_regions};
-use acpi_c_lib::records::{PciRegion, Signature, Source};
+use acpi_c_lib::records::{Signature, Source};
 
 /// Lists the regions of PCI configuration space of the MCFG: 16 bytes for each from byte 44 on; fewer at the end are
 /// none.

@@ -1,9 +1,10 @@
 //! Made by scripts/exports of include/zacpi.h, which has what each call does.
-ghost use Rattle.acpi_c_lib.specs.Words.{Answers, enable_plan_below, reset_plan_below, sleep_plan_below, sleep_types_below};
+ghost use Rattle.acpi_c_devices.specs.Words.{enable_plan_below, reset_plan_below, sleep_plan_below, sleep_types_below};
+ghost use Rattle.acpi_c_lib.specs.Words.{Answers};
 
+use acpi_c_devices::power::records::{Plan, SleepTypes};
+use acpi_c_devices::power::{enable_plan, power_off_plan, reset_plan, sleep_plan, sleep_types};
 use acpi_c_lib::answer::answer;
-use acpi_c_lib::power::{enable_plan, power_off_plan, reset_plan, sleep_plan, sleep_types};
-use acpi_c_lib::power_records::{Plan, SleepTypes};
 use acpi_c_lib::records::{Signature, Source};
 
 /// Returns the sleep types of S0 to S5, each as a byte, from the first of the DSDT and the SSDTs that contains the

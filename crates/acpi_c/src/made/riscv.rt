@@ -1,9 +1,10 @@
 //! Made by scripts/exports of include/zacpi.h, which has what each call does.
-ghost use Rattle.acpi_c_lib.specs.Words.{AnswersList, AnswersListFrom, aplic_in, below_riscv, imsic_in, plic_in, rintc_in};
+ghost use Rattle.acpi_c_interrupts.specs.Words.{aplic_in, below_riscv, imsic_in, plic_in, rintc_in};
+ghost use Rattle.acpi_c_lib.specs.Words.{AnswersList, AnswersListFrom};
 
+use acpi_c_interrupts::riscv::{riscv_entries, riscv_entries_from};
 use acpi_c_lib::answer::answer;
 use acpi_c_lib::records::{Signature, Source};
-use acpi_c_lib::riscv::{riscv_entries, riscv_entries_from};
 use acpi_riscv::{Aplic, Imsic, Plic, Rintc};
 
 /// Each lists the MADT's entries of one Type, up to where none begins, since Length is above the bytes left or below

@@ -1,11 +1,12 @@
 //! Made by scripts/exports of include/zacpi.h, which has what each call does.
-ghost use Rattle.acpi_c_lib.specs.Words.{Answers, AnswersList, frames_shown, gtdt_below, gtdt_faults_below, timers_shown, watchdogs_shown};
+ghost use Rattle.acpi_c_interrupts.specs.Words.{frames_shown, gtdt_below, gtdt_faults_below, timers_shown, watchdogs_shown};
+ghost use Rattle.acpi_c_lib.specs.Words.{Answers, AnswersList};
 
+use acpi_c_interrupts::arm::records::{ArmTimers, GtFrame, Watchdog};
+use acpi_c_interrupts::arm::timer_faults::gtdt_faults;
+use acpi_c_interrupts::arm::timers::{arm_timers, frames, watchdogs};
 use acpi_c_lib::answer::answer;
-use acpi_c_lib::arm_records::{ArmTimers, GtFrame, Watchdog};
-use acpi_c_lib::arm_timers::{arm_timers, frames, watchdogs};
 use acpi_c_lib::entry_faults::EntryFault;
-use acpi_c_lib::gtdt_faults::gtdt_faults;
 use acpi_c_lib::records::{Signature, Source};
 
 /// Returns the timers of every processor.

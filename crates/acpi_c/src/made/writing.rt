@@ -1,22 +1,30 @@
 //! Made by scripts/exports of include/zacpi.h, which has what each call does.
 ghost use Rattle.acpi.specs.Types.{DSDT, SSDT};
 ghost use Rattle.acpi.specs.declared.root.RootKind.TheVariants.{Rsdt, Xsdt};
-ghost use Rattle.acpi_c_lib.specs.Words.{AnswersPlain, WritesTable, dsdt_said, facs_contents, facs_said, machine_said, signature_named, size_said, table_said, tree_said, writer_refused};
-ghost use Rattle.acpi_c_lib.specs.declared.writing.machine.Contents.TheVariants.{Bgrt, Fadt, Gic, Gtdt, Hpet, Madt, Mcfg, Spcr, Srat};
-ghost use Rattle.acpi_writer.specs.Words.{aml_written, facs_written, rhct_written, riscv_written, root_written, rsdp_written, slit_written, table_written};
+ghost use Rattle.acpi_c_devices.specs.Words.{facs_contents};
+ghost use Rattle.acpi_c_lib.specs.Words.{AnswersPlain, signature_named};
+ghost use Rattle.acpi_c_machine.specs.Words.{WritesTable, dsdt_said, facs_said, machine_said, size_said, table_said, tree_said, writer_refused};
+ghost use Rattle.acpi_c_machine.specs.declared.machine.Contents.TheVariants.{Bgrt, Fadt, Gic, Gtdt, Hpet, Madt, Mcfg, Spcr, Srat};
+ghost use Rattle.acpi_table_writer.specs.Words.{rhct_written, riscv_written, slit_written, table_written};
+ghost use Rattle.acpi_writer.specs.Words.{aml_written, facs_written, root_written, rsdp_written};
 ghost use Rattle.std.specs.Prelude.{length};
 
+use acpi_c_devices::fixed::records::FixedHardware;
+use acpi_c_devices::records::{BootGraphic, HpetInfo, PciRegion};
+use acpi_c_devices::written_records::{FacsContents, SpcrContents, SratContents};
+use acpi_c_interrupts::written_records::{GicContents, GtdtContents, MadtContents};
 use acpi_c_lib::answer::answer_plain;
-use acpi_c_lib::fixed_records::FixedHardware;
-use acpi_c_lib::records::{BootGraphic, HpetInfo, PciRegion, Signature};
-use acpi_c_lib::writing::{
-    Contents, dsdt_place, facs_place, tables_size, write_contents, write_dsdt, write_facs,
-    write_hardware, write_rhct, write_riscv_madt, write_rsdp, write_rsdt, write_slit, write_ssdt,
-    write_table, write_tables, write_tables_without_rsdp, write_xsdt, written,
+use acpi_c_lib::records::Signature;
+use acpi_c_machine::machine::{
+    Contents, dsdt_place, facs_place, tables_size, write_contents, write_hardware, write_tables,
+    write_tables_without_rsdp,
 };
-use acpi_c_lib::written_records::{
-    AmlContents, FacsContents, GicContents, GtdtContents, Machine, MadtContents, RhctContents,
-    RiscvContents, SpcrContents, SratContents, TableIds,
+use acpi_c_machine::writing::{
+    write_dsdt, write_facs, write_rhct, write_riscv_madt, write_rsdp, write_rsdt, write_slit,
+    write_ssdt, write_table, write_xsdt, written,
+};
+use acpi_c_machine::written_records::{
+    AmlContents, Machine, RhctContents, RiscvContents, TableIds,
 };
 
 /// Writes an RSDP of revision 2 that points to an XSDT (section 5.2.5.3): 36 bytes.

@@ -1,14 +1,15 @@
 use Rattle.std.proofs.Common.{arith, sym}
-use Rattle.acpi_c_lib.proofs.Unlent.{few_holes, walked_all, walked_more, walked_to}
+use Rattle.acpi_c_lib.proofs.Unmapped.{few_missing_ranges, walked_all, walked_more, walked_to}
 use Rattle.acpi_c_lib.proofs.candidates.walk.Goals as goal
 
 pub loop-left-preserved : goal.loop-left-preserved
 loop-left-preserved g c =
-    let o = c.in-Err.hole in (
+    let o = c.in-Err.missing_range in (
       rw (c.put_pair-next.ensures.items, c.put_pair-next.ensures.count)
-          (walked_more _ _ _ _ _ o _ _ _ c.loop-left-test.true (sym c.in-Err.ensures.valid) c.in-Err.ensures.hole
+          (walked_more _ _ _ _ _ o _ _ _ c.loop-left-test.true
+          (sym c.in-Err.ensures.valid) c.in-Err.ensures.missing_range
           c.loop-left.invariant.0),
-      omega (arith, c.put_pair-next.ensures.count, few_holes o),
+      omega (arith, c.put_pair-next.ensures.count, few_missing_ranges o),
       omega arith,
     )
 

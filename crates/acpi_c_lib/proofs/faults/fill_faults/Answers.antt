@@ -16,8 +16,8 @@ never e = cc
 by_error : (m : Memory) (k : Kind) (p : ℕ) (rest : List Fault) (r : Result (List ℕ) AcpiError)
     (looked : Result (Unit {0}) AcpiError) (e : AcpiError) (o : Option Fault) → looked ≡ result_map (λ _. tt) r
     → looked ≡ Err e → with_fault p e rest ≡ cons_option o rest → fault_before m k p r rest ≡ cons_option o rest
-by_error m k p rest (Ok table) looked e o said is found = absurd cc
-by_error m k p rest (Err d) looked e o said is found =
+by_error m k p rest (Ok table) looked e o given is found = absurd cc
+by_error m k p rest (Err d) looked e o given is found =
     let same : d ≡ e = cc in
     rw same found
 

@@ -1,0 +1,83 @@
+//! Made by scripts/shown: records for C, and what is written of C's, as definitions in specs/ have them.
+ghost use Rattle.std.specs.Prelude.{◌≡◌};
+ghost use Rattle.acpi_c_devices.specs.Iommu.{block_record, device_record, memory_record, reserved_record, source_record, unit_record};
+
+use crate::iommu::records::{DmarReserved, DmarSource, DmarUnit, IvrsDevice, IvrsMemory, IvrsUnit};
+use acpi_iommu::{DeviceUnit, Drhd, Hop, Ivhd, Ivmd, Rmrr, UnitSource};
+
+pub(crate) fn unit_record(d: &Drhd) -> DmarUnit
+    ensures { result ≡ unit_record d.now }
+{
+    DmarUnit {
+        register_base: d.register_base,
+        register_bytes: d.register_bytes(),
+        segment: d.segment,
+        includes_pci_all: d.includes_pci_all() as u8,
+        flags: d.flags,
+        size: d.size,
+    }
+}
+
+pub(crate) fn source_record(u: &UnitSource) -> DmarSource
+    ensures { result ≡ source_record u.now }
+{
+    DmarSource {
+        unit: unit_record(&u.unit),
+        bus: u.bus,
+        hop: u.hop.unwrap_or(Hop {
+            device: 0,
+            function: 0,
+        }),
+        has_hop: u.hop.is_some() as u8,
+    }
+}
+
+pub(crate) fn reserved_record(r: &Rmrr) -> DmarReserved
+    ensures { result ≡ reserved_record r.now }
+{
+    DmarReserved {
+        base: r.base,
+        limit: r.limit,
+        segment: r.segment,
+    }
+}
+
+pub(crate) fn block_record(b: &Ivhd) -> IvrsUnit
+    ensures { result ≡ block_record b.now }
+{
+    IvrsUnit {
+        base: b.base,
+        extended_features: b.extended_features.unwrap_or(0),
+        features: b.features,
+        segment: b.segment,
+        device_id: b.device_id,
+        capability_offset: b.capability_offset,
+        info: b.info,
+        block_type: b.kind,
+        flags: b.flags,
+        has_extended_features: b.extended_features.is_some() as u8,
+    }
+}
+
+pub(crate) fn device_record(d: &DeviceUnit) -> IvrsDevice
+    ensures { result ≡ device_record d.now }
+{
+    IvrsDevice {
+        unit: block_record(&d.unit),
+        source_id: d.source,
+        settings: d.settings,
+    }
+}
+
+pub(crate) fn memory_record(m: &Ivmd) -> IvrsMemory
+    ensures { result ≡ memory_record m.now }
+{
+    IvrsMemory {
+        start: m.start,
+        length: m.length,
+        device_id: m.device_id,
+        auxiliary: m.auxiliary,
+        block_type: m.kind,
+        flags: m.flags,
+    }
+}

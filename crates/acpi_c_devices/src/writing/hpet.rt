@@ -1,0 +1,5 @@
+//! The HPET that is written for C, from the record as which C reads it.
+
+mod shown;
+
+pub use shown::hpet_info_of;

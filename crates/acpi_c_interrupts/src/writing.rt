@@ -1,0 +1,5 @@
+//! The tables of interrupts and timers that are written for C: what each is to contain, as `acpi_table_writer` has it.
+
+pub mod gic;
+pub mod gtdt;
+pub mod madt;

@@ -1,0 +1,71 @@
+//! Made by scripts/shown: records for C, and what is written of C's, as definitions in specs/ have them.
+ghost use Rattle.std.specs.Prelude.{◌≡◌};
+ghost use Rattle.acpi_c_interrupts.specs.WrittenMadt.{io_apic_of, nmi_line_of, nmi_source_of, override_of, processor_of};
+
+use crate::apics::records::{InterruptSourceOverride, IoApic, NmiLine, NmiSource, Processor};
+use crate::writing::madt::{polarity, trigger};
+use acpi_base::model::{LocalInterruptLine, NmiProcessor};
+use acpi_table_writer::{MadtNmiLine, MadtProcessor};
+
+/// Enabled is set unless the state is 0.
+pub(crate) fn processor_of(p: &Processor) -> MadtProcessor
+    ensures { result ≡ processor_of p.now }
+{
+    MadtProcessor {
+        processor_uid: p.uid,
+        local_apic_id: p.local_apic_id,
+        is_enabled: p.state != 0,
+        is_online_capable: p.is_online_capable != 0,
+        is_x2apic: p.is_x2apic != 0,
+    }
+}
+
+pub(crate) fn io_apic_of(x: &IoApic) -> acpi_base::model::IoApic
+    ensures { result ≡ io_apic_of x.now }
+{
+    acpi_base::model::IoApic {
+        id: x.id,
+        address: x.address,
+        global_system_interrupt_base: x.global_system_interrupt_base,
+    }
+}
+
+pub(crate) fn override_of(x: &InterruptSourceOverride) -> acpi_base::model::InterruptSourceOverride
+    ensures { result ≡ override_of x.now }
+{
+    acpi_base::model::InterruptSourceOverride {
+        isa_source: x.isa_source,
+        global_system_interrupt: x.global_system_interrupt,
+        polarity: polarity(x.polarity),
+        trigger_mode: trigger(x.trigger),
+    }
+}
+
+pub(crate) fn nmi_source_of(x: &NmiSource) -> acpi_base::model::NmiSource
+    ensures { result ≡ nmi_source_of x.now }
+{
+    acpi_base::model::NmiSource {
+        global_system_interrupt: x.global_system_interrupt,
+        polarity: polarity(x.polarity),
+        trigger_mode: trigger(x.trigger),
+    }
+}
+
+pub(crate) fn nmi_line_of(x: &NmiLine) -> MadtNmiLine
+    ensures { result ≡ nmi_line_of x.now }
+{
+    MadtNmiLine {
+        processor: if x.of_all == 0 {
+            NmiProcessor::ProcessorUid(x.processor_uid)
+        } else {
+            NmiProcessor::All
+        },
+        line: if x.lint == 0 {
+            LocalInterruptLine::Lint0
+        } else {
+            LocalInterruptLine::Lint1
+        },
+        polarity: polarity(x.polarity),
+        trigger_mode: trigger(x.trigger),
+    }
+}

@@ -1,0 +1,4 @@
+pub mod Types
+pub mod Words
+pub mod Writing
+pub mod WrittenMachine
