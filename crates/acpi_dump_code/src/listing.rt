@@ -5,6 +5,8 @@ use crate::known::Known;
 use crate::lines::Listing;
 use crate::operations::Operations;
 use crate::why::Why;
+use acpi::PhysicalRecord;
+use acpi::sdt::SdtHeader;
 use acpi_dump_walk::aml::Ends;
 use acpi_dump_walk::out::Out;
 use std::alloc::{AllocError, Global};
@@ -40,6 +42,19 @@ pub trait ShowCode {
     /// Shows that the path of these segments is defined, or by an External that another table defines it: a method with
     /// a number of arguments, or without it another object.
     fn define(&mut self, _path: &[u8], _is_elsewhere: bool, _arguments: Option<u8>) {}
+}
+
+/// Lists the terms of a table, which is a DSDT, an SSDT or a PSDT, after its header.
+///
+/// Fails if memory runs out.
+pub fn list_table<S: ShowCode>(
+    alloc: Global,
+    known: &Known<'_>,
+    table: &[u8],
+    show: &mut S,
+) -> Result<(), AllocError> {
+    let extent = Extent::of(table, SdtHeader::MIN_LENGTH, table.len());
+    list_code(alloc, known, extent, &[], show)
 }
 
 /// Lists the terms of a table, which are in the scope with the path of these segments.

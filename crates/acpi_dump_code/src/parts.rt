@@ -1,7 +1,7 @@
 //! Parts of operations as text: constants, names, numbers, and the units of fields.
 ghost use Rattle.std.specs.Prelude.{◌<◌, length};
 
-use acpi_dump_walk::aml::value::name_in;
+use acpi_dump_walk::aml::constant::name_in;
 use acpi_dump_walk::fields::{number_of, print_hex, print_segments};
 use acpi_dump_walk::out::Out;
 use acpi_sleep::AmlError;

@@ -70,11 +70,11 @@ pub one_table : (inputs : List (List ℕ)) (folder name path bytes : List ℕ) (
     → SavesTables inputs folder (bytes ∷ []) is_partial before after
 one_table inputs folder name path bytes before after is_partial true named saves =
     grown_table inputs folder name path bytes is_partial before after (Ok tt) (λ off. refl) named saves
-one_table inputs folder name path bytes before after is_partial false named (told, inl none) =
-    no_table inputs folder (bytes ∷ []) (bytes ∷ []) is_partial before after told none
-one_table inputs folder name path bytes before after is_partial false named (told, inr failed) =
+one_table inputs folder name path bytes before after is_partial false named (reported, inl none) =
+    no_table inputs folder (bytes ∷ []) (bytes ∷ []) is_partial before after reported none
+one_table inputs folder name path bytes before after is_partial false named (reported, inr failed) =
     grown_table inputs folder name path bytes is_partial before after (Err failed.0)
-    (λ off. differ is_partial told off) named failed.1
+    (λ off. differ is_partial reported off) named failed.1
 
 -- ---- by some, and then by one more
 

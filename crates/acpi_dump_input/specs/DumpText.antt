@@ -86,18 +86,23 @@ pub record Spelled : Type 0 where
 
 -- the tables of lines: those that are whole, and the one whose rows come, with how many bytes it is said to have
 pub record Tables : Type 0 where
-  pub whole : List Spelled
+  pub complete : List Spelled
   pub current : Option Spelled
-  pub said : Option ℕ
+  pub stated_length : Option ℕ
 
 abbrev pub all_of : Tables → List Spelled
-all_of t = elim t.current [ None ↦ t.whole | Some s ↦ t.whole ++ s ∷ [] ]
+all_of t = elim t.current [ None ↦ t.complete | Some s ↦ t.complete ++ s ∷ [] ]
 
 abbrev pub opened : Tables → ℕ → Tables
-opened t address = record { whole = all_of t; current = Some (record { address = address; bytes = [] }); said = None }
+opened t address = record {
+  complete = all_of t;
+  current = Some
+      (record { address = address; bytes = [] });
+  stated_length = None;
+}
 
 abbrev pub closed : Tables → Tables
-closed t = record { whole = all_of t; current = None; said = None }
+closed t = record { complete = all_of t; current = None; stated_length = None }
 
 -- how many bytes the table has so far whose rows come
 abbrev pub held : Tables → Option ℕ
@@ -108,9 +113,9 @@ unfoldable pub with_row : Tables → ℕ × List ℕ → Option Tables
 with_row t row = option_and_then
     (λ s. if row.0 == length s.bytes
     then option_map (λ bs. record {
-      whole = t.whole;
+      complete = t.complete;
       current = Some (record { address = s.address; bytes = bs });
-      said = t.said;
+      stated_length = t.stated_length;
     }) (with_pairs 16 s.bytes row.1)
     else None)
     t.current
@@ -120,17 +125,18 @@ with_row t row = option_and_then
 unfoldable pub with_blank : Tables → Option Tables
 with_blank t = elim (held t) [
   | None ↦ Some (closed t)
-  | Some held ↦ elim t.said [
+  | Some held ↦ elim t.stated_length [
     | None ↦ Some (closed t)
-    | Some said ↦ if said == held then Some (closed t) else (if held == 0 then Some t else None)
+    | Some stated_length ↦ if stated_length == held then Some (closed t) else (if held == 0 then Some t else None)
   ]
 ]
 
 -- in a table a length stands before its rows
 unfoldable pub with_length : Tables → ℕ → Option Tables
-with_length t said = elim (held t) [
+with_length t stated_length = elim (held t) [
   | None ↦ Some t
-  | Some held ↦ if held == 0 then Some (record { whole = t.whole; current = t.current; said = Some said }) else None
+  | Some held ↦ if held == 0 then Some
+      (record { complete = t.complete; current = t.current; stated_length = Some stated_length }) else None
 ]
 
 -- one more line, unless it is wrong; outside a table any line but a row may stand
@@ -138,7 +144,7 @@ unfoldable pub with_other : Tables → List ℕ → Option Tables
 with_other t line =
     if length (trim line) == 0 then with_blank t
     else elim (length_of line) [
-      | Some said ↦ with_length t said
+      | Some stated_length ↦ with_length t stated_length
       | None ↦ if is_some t.current then None else Some t
     ]
 
@@ -159,4 +165,4 @@ tables_from n t (line ∷ lines) = or_wrong n (with_line t line) (λ more. table
 
 -- the tables that a text spells, or the number of its first wrong line, counted from 1
 abbrev pub tables_of : List ℕ → Result (List Spelled) ℕ
-tables_of text = tables_from 1 (record { whole = []; current = None; said = None }) (lines_of text)
+tables_of text = tables_from 1 (record { complete = []; current = None; stated_length = None }) (lines_of text)

@@ -11,4 +11,10 @@ abbrev pub tables_in : List SpelledTable → List Spelled
 tables_in tables = map spelled_of tables
 
 abbrev pub reading_of : Reading → Tables
-reading_of r = record { whole = tables_in r.whole.items; current = option_map spelled_of r.current; said = r.said }
+reading_of r = record {
+  complete = tables_in r.complete.items;
+  current = option_map spelled_of r.current;
+  stated_length
+      =
+      r.stated_length;
+}

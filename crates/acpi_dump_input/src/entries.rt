@@ -17,6 +17,7 @@ use acpi::spcr::Spcr;
 use acpi::{AcpiError, AcpiResult, AcpiTable, AcpiTables, PhysicalRecord, facs_length};
 use acpi_base::bytes::byte_sum;
 use acpi_dump_walk::out::Out;
+use acpi_dump_walk::walk::has_aml;
 use acpi_image_reader::MemoryImage;
 use std::alloc::{AllocError, Global};
 
@@ -61,6 +62,12 @@ impl<'a> Entry<'a> {
     /// The signature that it begins with, if it has four bytes.
     pub fn signature(&self) -> Option<Signature> {
         signature_of(self.bytes)
+    }
+
+    /// Whether it contains AML, by the signature that it begins with: also if a check of it fails, or if it should have
+    /// another signature.
+    pub fn has_aml(&self) -> bool {
+        has_aml(own_signature(self.bytes)) && self.bytes.len() >= SdtHeader::MIN_LENGTH
     }
 
     /// Whether it has a signature, or should have it, in either case.
@@ -328,7 +335,7 @@ pub fn entry_at<'i>(
 }
 
 /// The table that a FADT leads to, or its refusal to say where.
-fn entry_led<'i>(
+fn entry_pointed_to<'i>(
     alloc: Global,
     image: &MemoryImage<'i>,
     address: AcpiResult<u64>,
@@ -349,7 +356,7 @@ fn entry_led<'i>(
 
 /// The tables that a valid FADT leads to, if one is listed: the DSDT and the FACS, each by its address and signature. A
 /// machine of reduced hardware needn't have a FACS: both fields of its address are 0 then (section 5.2.9).
-fn led_by_fadt(
+fn fadt_pointers(
     tables: &AcpiTables<'_, MemoryImage<'_>>,
 ) -> [Option<(AcpiResult<u64>, Signature)>; 2] {
     let Ok(fadt) = &tables.find_table::<Fadt>() else {
@@ -379,11 +386,11 @@ pub fn entries_of<'i>(
     for address in tables.addresses() {
         entries.push(entry_at(alloc, image, address, None))?;
     }
-    for led in &led_by_fadt(tables) {
-        let Some((address, signature)) = *led else {
+    for pointer in &fadt_pointers(tables) {
+        let Some((address, signature)) = *pointer else {
             continue;
         };
-        entries.push(entry_led(alloc, image, address, signature))?;
+        entries.push(entry_pointed_to(alloc, image, address, signature))?;
     }
     Ok(entries)
 }

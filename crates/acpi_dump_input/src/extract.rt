@@ -39,7 +39,7 @@ fn has_folder<S: Sources, T: Storage>(
     log: &mut Log,
 ) -> bool
     ensures none { T.saved storage.new ≡ T.saved storage.old }
-    ensures told { result ≡ false → log.new.is_incomplete ≡ true }
+    ensures reported { result ≡ false → log.new.is_incomplete ≡ true }
     ensures keeps { log.old.is_incomplete ≡ true → log.new.is_incomplete ≡ true }
 {
     let why = match sources.kind_of(folder) {

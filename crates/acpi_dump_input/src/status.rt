@@ -52,7 +52,7 @@ impl fmt::Display for Status {
     fn fmt<W: fmt::Write>(&self, f: &mut fmt::Formatter<W>) -> fmt::Result {
         match self {
             Status::Valid => f.write_str("ok"),
-            Status::NoLookup(refusal) => write!(f, "ok, but its lookup answers {refusal}"),
+            Status::NoLookup(refusal) => write!(f, "ok, but its lookup fails with {refusal}"),
             Status::Refused(refusal) => write!(f, "{refusal}"),
             Status::WrongSum {
                 signature,

@@ -45,11 +45,11 @@ impl From<AllocError> for TextError {
 #[derive(Drop)]
 pub struct Reading {
     /// Those that are whole.
-    whole: Vec<SpelledTable>,
+    complete: Vec<SpelledTable>,
     /// The one whose rows are read.
     current: Option<SpelledTable>,
     /// How many bytes the text says that it has.
-    said: Option<u64>,
+    stated_length: Option<u64>,
 }
 
 /// The first line of a text without its line feed, and what comes after that.
@@ -109,12 +109,12 @@ impl Reading {
 
     /// No table.
     fn none(alloc: Global) -> Reading
-        ensures { reading_of result ≡ record { whole = []; current = None; said = None } }
+        ensures { reading_of result ≡ record { complete = []; current = None; stated_length = None } }
     {
         Reading {
-            whole: Vec::new(alloc),
+            complete: Vec::new(alloc),
             current: None,
-            said: None,
+            stated_length: None,
         }
     }
 
@@ -123,14 +123,14 @@ impl Reading {
         ensures { IfOk result (λ v. tables_in v.items ≡ all_of (reading_of self)) }
     {
         let Reading {
-            mut whole,
+            mut complete,
             current,
             ..
         } = self;
         if let Some(table) = current {
-            whole.push(table)?;
+            complete.push(table)?;
         }
-        Ok(whole)
+        Ok(complete)
     }
 
     /// These tables, all of them whole.
@@ -138,9 +138,9 @@ impl Reading {
         ensures { IfOk result (λ r. reading_of r ≡ closed (reading_of self)) }
     {
         Ok(Reading {
-            whole: self.all()?,
+            complete: self.all()?,
             current: None,
-            said: None,
+            stated_length: None,
         })
     }
 
@@ -158,15 +158,15 @@ impl Reading {
     fn opened(self, alloc: Global, address: u64) -> Result<Reading, AllocError>
         ensures { IfOk result (λ r. reading_of r ≡ opened (reading_of self) address) }
     {
-        let whole = self.all()?;
+        let complete = self.all()?;
         let table = SpelledTable {
             address,
             bytes: Vec::new(alloc),
         };
         Ok(Reading {
-            whole,
+            complete,
             current: Some(table),
-            said: None,
+            stated_length: None,
         })
     }
 
@@ -177,9 +177,9 @@ impl Reading {
             ≡ with_row (reading_of self) (row.entry.offset, row.entry.pairs.now)) }
     {
         let Reading {
-            whole,
+            complete,
             current,
-            said,
+            stated_length,
         } = self;
         let Some(table) = current else {
             return Ok(None);
@@ -192,9 +192,9 @@ impl Reading {
             return Ok(None);
         }
         Ok(Some(Reading {
-            whole,
+            complete,
             current: Some(SpelledTable { address, bytes }),
-            said,
+            stated_length,
         }))
     }
 
@@ -204,10 +204,10 @@ impl Reading {
     fn with_blank(self) -> Result<Option<Reading>, AllocError>
         ensures { IfOk result (λ o. option_map reading_of o ≡ with_blank (reading_of self)) }
     {
-        let (Some(held), Some(said)) = (self.held(), self.said) else {
+        let (Some(held), Some(stated_length)) = (self.held(), self.stated_length) else {
             return Ok(Some(self.closed()?));
         };
-        if said == held {
+        if stated_length == held {
             return Ok(Some(self.closed()?));
         }
         Ok(if held == 0 { Some(self) } else { None })
@@ -215,8 +215,8 @@ impl Reading {
 
     /// These tables after a line that says how many bytes the current one has, or `None` if that has rows by now.
     #[tactic(auto, unfolding(crate::specs::DumpText::with_length))]
-    fn with_length(self, said: u64) -> Option<Reading>
-        ensures { option_map reading_of result ≡ with_length (reading_of self) said }
+    fn with_length(self, stated_length: u64) -> Option<Reading>
+        ensures { option_map reading_of result ≡ with_length (reading_of self) stated_length }
     {
         let Some(held) = self.held() else {
             return Some(self);
@@ -224,11 +224,15 @@ impl Reading {
         if held > 0 {
             return None;
         }
-        let Reading { whole, current, .. } = self;
-        Some(Reading {
-            whole,
+        let Reading {
+            complete,
             current,
-            said: Some(said),
+            ..
+        } = self;
+        Some(Reading {
+            complete,
+            current,
+            stated_length: Some(stated_length),
         })
     }
 
@@ -247,8 +251,8 @@ impl Reading {
         if line.trim().is_empty() {
             return self.with_blank();
         }
-        if let Some(said) = length_in(line) {
-            return Ok(self.with_length(said));
+        if let Some(stated_length) = length_in(line) {
+            return Ok(self.with_length(stated_length));
         }
         if self.current.is_some() {
             return Ok(None);

@@ -22,9 +22,9 @@ use Rattle.clap.specs.declared.parser.matches.ArgMatches.{ArgMatches}
 
 -- ---- more may be left out
 
-told : (p q : Bool) → (q ≡ false → p ≡ false) → p ≡ true → q ≡ true
-told p true less is = refl
-told p false less is = sym (less refl) ∙ is
+contraposed : (p q : Bool) → (q ≡ false → p ≡ false) → p ≡ true → q ≡ true
+contraposed p true less is = refl
+contraposed p false less is = sym (less refl) ∙ is
 
 weaker_tables : (inputs : List (List ℕ)) (folder : List ℕ) (tables : List (List ℕ)) (p q : Bool)
     (before after : List FileSaved) → (q ≡ false → p ≡ false) → SavesTables inputs folder tables p before after
@@ -40,7 +40,7 @@ weaker_file : (inputs : List (List ℕ)) (path bytes : List ℕ) (p q : Bool) (b
     (is_saved : Bool) → (q ≡ false → p ≡ false) → SavesFile inputs path bytes p before after is_saved
     → SavesFile inputs path bytes q before after is_saved
 weaker_file inputs path bytes p q before after true less saves = saves
-weaker_file inputs path bytes p q before after false less (is, none) = (told p q less is, none)
+weaker_file inputs path bytes p q before after false less (is, none) = (contraposed p q less is, none)
 
 weaker_page : (inputs : List (List ℕ)) (path text : List ℕ) (p q : Bool) (before after : List FileSaved)
     → (q ≡ false → p ≡ false) → SavesPage inputs path text p before after → SavesPage inputs path text q before after
@@ -51,7 +51,7 @@ weaker_page inputs path text p q before after less (inr saves) =
 weaker_paged : (inputs : List (List ℕ)) (file : Option (List ℕ)) (p q : Bool) (before after : List FileSaved)
     → (q ≡ false → p ≡ false) → SavesPaged inputs file p before after → SavesPaged inputs file q before after
 weaker_paged inputs None p q before after less none = none
-weaker_paged inputs (Some file) p q before after less (inl none) = inl (told p q less none.0, none.1)
+weaker_paged inputs (Some file) p q before after less (inl none) = inl (contraposed p q less none.0, none.1)
 weaker_paged inputs (Some file) p q before after less (inr saves) =
     inr (saves.0, weaker_page inputs file saves.0 p q before after less saves.1)
 
@@ -69,7 +69,7 @@ weaker_in : (gives : List ℕ → List ℕ → Type 0) (asked : Asked) (folder :
     → SavesIn gives asked folder q before after
 weaker_in gives asked None p q before after less saves =
     weaker_paged asked.inputs asked.page p q before after less saves
-weaker_in gives asked (Some folder) p q before after less (inl none) = inl (told p q less none.0, none.1)
+weaker_in gives asked (Some folder) p q before after less (inl none) = inl (contraposed p q less none.0, none.1)
 weaker_in gives asked (Some folder) p q before after less (inr saves) = inr (record {
   input = saves.input;
   read = saves.read;
@@ -78,7 +78,7 @@ weaker_in gives asked (Some folder) p q before after less (inr saves) = inr (rec
 
 weaker_parsed : (gives : List ℕ → List ℕ → Type 0) (parsed : Parsed) (p q : Bool) (before after : List FileSaved)
     → (q ≡ false → p ≡ false) → SavesParsed gives parsed p before after → SavesParsed gives parsed q before after
-weaker_parsed gives (Ok matches) p q before after less (inl none) = inl (told p q less none.0, none.1)
+weaker_parsed gives (Ok matches) p q before after less (inl none) = inl (contraposed p q less none.0, none.1)
 weaker_parsed gives (Ok matches) p q before after less (inr (asked, is, saves)) =
     inr (asked, is, weaker_in gives asked asked.folder p q before after less saves)
 weaker_parsed gives (Err error) p q before after less (none, shown) = (none, λ off. shown (less off))

@@ -1,17 +1,18 @@
 //! The contents of chosen tables.
 ghost use Rattle.std.specs.Prelude.{◌≡◌, [], All, Contains, IfOk, map};
 
-use crate::code::{is_code, show_code};
 use crate::getters::print_getters;
 use crate::options::{Choice, Contents};
 use crate::paint::Paint;
 use acpi::sdt::Signature;
-use acpi_dump_code::Known;
 use acpi_dump_code::text::CodeText;
+use acpi_dump_code::{Known, Paths, list_table};
+use acpi_dump_compare::compare::code::names_in;
 use acpi_dump_input::dumped::print_dumped;
 use acpi_dump_input::entries::{Entry, own_signature, print_name};
 use acpi_dump_input::errors::{Log, fail};
 use acpi_dump_input::status::Status;
+use acpi_dump_summary::document::{Document, Part, add_table};
 use acpi_dump_walk::hex::print_dump;
 use acpi_dump_walk::out::Out;
 use acpi_dump_walk::text::Text;
@@ -28,7 +29,7 @@ fn chooses(choice: Choice, entry: &Entry<'_>) -> bool {
 }
 
 /// Whether a table is shown by a choice: no choice before it shows the table in the same form.
-pub(crate) fn shows(choices: &[Choice], number: usize, entry: &Entry<'_>) -> bool {
+fn shows(choices: &[Choice], number: usize, entry: &Entry<'_>) -> bool {
     let Some(choice) = choices.get(number) else {
         return false;
     };
@@ -59,6 +60,45 @@ pub(crate) fn chosen_of<'l>(
         chosen.push(*entry)?;
     }
     Ok(chosen)
+}
+
+/// The names that tables define, if the operations of some are listed, and else none.
+///
+/// If memory runs out, this fails, or `Known::new` with what it returns.
+pub(crate) fn names_for(
+    alloc: Global,
+    entries: &[Entry<'_>],
+    choices: &[Choice],
+) -> Result<Paths, AllocError> {
+    let lists_code = choices
+        .iter()
+        .any(|choice| choice.contents == Contents::Code);
+    if !lists_code {
+        return names_in(alloc, &[]);
+    }
+    names_in(alloc, entries)
+}
+
+/// Adds the tables that are chosen to a document, choice by choice.
+pub(crate) fn add_tables(
+    document: &mut Document<'_>,
+    entries: &[Entry<'_>],
+    choices: &[Choice],
+    known: &Known<'_>,
+) {
+    for (number, choice) in choices.iter().enumerate() {
+        for entry in entries {
+            if shows(choices, number, entry) {
+                let part = match choice.contents {
+                    Contents::Code if entry.has_aml() => Part::Code(&*known),
+                    Contents::Code | Contents::Fields => Part::Fields,
+                    Contents::Bytes => Part::Bytes,
+                    Contents::Dumped => Part::Nothing,
+                };
+                add_table(document, entry, part);
+            }
+        }
+    }
 }
 
 /// Prints the tables that are chosen, choice by choice.
@@ -109,9 +149,9 @@ fn print_table(
     }
     match contents {
         Contents::Bytes => print_dump(entry.bytes, out),
-        Contents::Code if is_code(entry) => {
-            let alloc = out.allocator();
-            if show_code(alloc, known, entry, &mut CodeText { out: &mut *out }).is_err() {
+        Contents::Code if entry.has_aml() => {
+            let (alloc, table) = (out.allocator(), entry.bytes);
+            if list_table(alloc, known, table, &mut CodeText { out: &mut *out }).is_err() {
                 out.refuse();
             }
         }

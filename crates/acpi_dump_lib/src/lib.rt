@@ -6,9 +6,7 @@
 
 mod accepted;
 mod arguments;
-mod code;
 mod contents;
-mod document;
 mod getters;
 mod listing;
 mod options;
@@ -16,7 +14,6 @@ mod paint;
 pub mod parser;
 mod rules;
 pub mod run;
-mod summary;
 mod values;
 mod views;
 mod wanted;

@@ -17,18 +17,17 @@ ghost use Rattle.acpi_dump_lib.specs.Saves.{SavesOrFails, leaves_out};
 
 use crate::accepted::Accepted;
 use crate::arguments::{Request, View};
-use crate::code::code_of;
-use crate::contents::{chosen_of, print_tables, tell_missing};
-use crate::document::{Document, add_all, add_chosen};
+use crate::contents::{add_tables, chosen_of, names_for, print_tables, tell_missing};
 use crate::listing::print_lines;
 use crate::paint::Paint;
 use acpi_cli::storage::Storage;
-use acpi_dump_code::{Known, paths_of};
+use acpi_dump_code::Known;
 use acpi_dump_input::entries::Entry;
 use acpi_dump_input::errors::{Log, Stop, tell};
 use acpi_dump_input::extract::{Saving, save_tables};
 use acpi_dump_input::gather::Input;
 use acpi_dump_input::sources::Sources;
+use acpi_dump_summary::document::{Document, Part, add_table};
 use acpi_dump_walk::out::Out;
 pub(crate) use compared::print_compared;
 use found::print_found;
@@ -148,16 +147,17 @@ fn print_entries(
 ) -> Result<u8, Stop> {
     let choices = output.request.choices.as_slice();
     let is_chosen = matches!(output.request.view, View::Tables);
-    let code = &code_of(output.alloc, entries, choices)?;
-    let paths = &paths_of(output.alloc, code)?;
+    let paths = &names_for(output.alloc, entries, choices)?;
     let known = &Known::new(output.alloc, paths)?;
     if output.request.is_json {
         let mut document = output.document("tables");
         let view = if is_chosen {
-            add_chosen(&mut document, entries, choices, known);
+            add_tables(&mut document, entries, choices, known);
             "contents"
         } else {
-            add_all(&mut document, entries);
+            for entry in entries {
+                add_table(&mut document, entry, Part::Nothing);
+            }
             "tables"
         };
         document.print(view, out)?;

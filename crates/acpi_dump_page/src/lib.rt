@@ -1,6 +1,7 @@
 //! A page of an input's tables, or of what differs between two inputs.
 //!
-//! Every function returns for every input, without fault. What a page has is tested, and not proved.
+//! Every function returns for every input, without fault. What `print_escaped` prints is proved to be text, without
+//! markup; what else a page contains is tested, and not proved.
 #![tactic(auto)]
 
 pub mod html;

@@ -1,6 +1,7 @@
 //! The named objects of AML, in the order of the bytes (ACPI 6.4, section 20.2.5). AML is not run.
 ghost use Rattle.std.specs.Prelude.{◌<◌, ◌≤◌, length, IfOk};
 
+pub mod constant;
 pub mod parts;
 pub mod resources;
 pub mod units;

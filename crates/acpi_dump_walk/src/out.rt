@@ -1,5 +1,7 @@
 //! What is printed, piece by piece, without asking after each piece whether memory sufficed for it.
 
+ghost use Rattle.acpi_dump_walk.specs.Printed.{Prints};
+
 use std::alloc::{AllocError, Global};
 use std::fmt::Display;
 use std::io;
@@ -30,7 +32,7 @@ impl Out {
         }
     }
 
-    /// Prints what another one has, which is no whole either if that isn't.
+    /// Prints what another output has. If memory was refused to that one, it counts as refused here too.
     pub fn append(&mut self, other: &Out) {
         self.is_refused |= other.is_refused;
         self.bytes(&other.bytes);
@@ -42,12 +44,16 @@ impl Out {
     }
 
     /// Prints a text.
-    pub fn text(&mut self, text: &str) {
+    pub fn text(&mut self, text: &str)
+        ensures { Prints self.old self.new text.now }
+    {
         self.bytes(text.as_bytes());
     }
 
     /// Prints bytes as they are.
-    pub fn bytes(&mut self, bytes: &[u8]) {
+    pub fn bytes(&mut self, bytes: &[u8])
+        ensures { Prints self.old self.new bytes.now }
+    {
         if !self.is_refused {
             self.is_refused = self.bytes.extend_from_slice(bytes).is_err();
         }

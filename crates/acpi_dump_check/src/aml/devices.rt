@@ -7,7 +7,7 @@ use crate::machine::Machine;
 use crate::numbers::{Kept, Numbers};
 use crate::pieces::Pieces;
 use acpi::sdt::{Signature, field};
-use acpi_dump_walk::aml::value::{elements_of, integer_in, next_element};
+use acpi_dump_walk::aml::constant::{elements_of, integer_in, next_element};
 use acpi_dump_walk::fields::print_path;
 
 /// An id: as an integer, and as a text.

@@ -3,8 +3,8 @@
 use super::names::{Named, Names};
 use crate::findings::Findings;
 use acpi_base::bytes::byte_sum;
+use acpi_dump_walk::aml::constant::buffer_in;
 use acpi_dump_walk::aml::resources::{Descriptors, END, tag_of};
-use acpi_dump_walk::aml::value::buffer_in;
 use acpi_dump_walk::language::{is_chosen, next_word, number_of};
 
 /// Descriptors: the first byte, without the length in it if that is small, and the lengths that it has after the first

@@ -4,7 +4,7 @@ use super::names::{Named, Names, ROOT};
 use crate::findings::Findings;
 use crate::machine::Machine;
 use acpi::sdt::{Signature, field};
-use acpi_dump_walk::aml::value::{elements_of, integer_in, is_eisa_id, name_in, next_element};
+use acpi_dump_walk::aml::constant::{elements_of, integer_in, is_eisa_id, name_in, next_element};
 use acpi_dump_walk::fields::print_path;
 
 /// The text that a constant is, without its zero.

@@ -1,13 +1,10 @@
 //! The lines of methods' code that differ.
 
 use super::known::Known;
-use acpi::PhysicalRecord;
-use acpi::sdt::SdtHeader;
 use acpi_dump_code::changes::{Lines, ShowLines, show_changes};
 use acpi_dump_code::{Extent, Known as Names, Paths, paths_of};
 use acpi_dump_input::entries::Entry;
 use acpi_dump_walk::out::Out;
-use acpi_dump_walk::walk::has_aml;
 use std::alloc::{AllocError, Global};
 
 /// A line that one of two tables alone has: whether that is the first, its offset there, how deep it is, and where its
@@ -108,7 +105,9 @@ impl ShowLines for CodeChanges {
     }
 }
 
-/// The segments of a path that is printed.
+/// The segments of a path that is printed, four letters each, from its first one on.
+///
+/// Fails if memory runs out.
 pub fn segments_of(alloc: Global, path: &str) -> Result<Vec<u8>, AllocError> {
     let mut segments = Vec::new(alloc);
     for byte in path.as_bytes() {
@@ -176,14 +175,13 @@ impl CodeChanges {
     }
 }
 
-/// The names that the tables of an input define.
+/// The names that the tables of an input define, valid or not: any of them may define what the AML of another calls.
+///
+/// If memory runs out, this fails, or `Known::new` with what it returns.
 pub fn names_in(alloc: Global, entries: &[Entry<'_>]) -> Result<Paths, AllocError> {
     let mut tables = Vec::new(alloc);
     for entry in entries {
-        if let Some(signature) = entry.signature()
-            && has_aml(signature)
-            && entry.bytes.len() >= SdtHeader::MIN_LENGTH
-        {
+        if entry.has_aml() {
             tables.push(entry.bytes)?;
         }
     }

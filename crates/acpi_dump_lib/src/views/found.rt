@@ -2,10 +2,10 @@
 
 use super::Output;
 use super::read::memory_of;
-use crate::document::Document;
 use acpi_dump_input::candidates::{Candidate, candidates};
 use acpi_dump_input::errors::{Log, Stop, fail};
 use acpi_dump_input::gather::Input;
+use acpi_dump_summary::document::Document;
 use acpi_dump_walk::out::Out;
 use json::Token;
 

@@ -3,13 +3,13 @@
 
 use super::read::{memory_of, open};
 use super::{Output, strict_status};
-use crate::document::{add_fact_lines, add_machine};
-use crate::summary::{Facts, Value, add_domains, add_facts, add_units};
 use acpi_dump_input::entries::{Entry, Place, entries_of, entries_of_files, print_name};
 use acpi_dump_input::errors::{Log, Stop, fail};
 use acpi_dump_input::gather::Input;
 use acpi_dump_input::machine::letters_of;
 use acpi_dump_input::status::Status;
+use acpi_dump_summary::document::{add_fact_lines, add_machine};
+use acpi_dump_summary::machine::{Facts, Value, add_domains, add_facts, add_units};
 use acpi_dump_walk::language::cut_at;
 use acpi_dump_walk::out::Out;
 use acpi_image::{PlacedTable, write_image};

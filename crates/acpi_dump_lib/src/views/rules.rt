@@ -1,11 +1,11 @@
 //! The rules, or one with what to do about it, as lines and as documents.
 
 use super::Output;
-use crate::document::Document;
 use acpi_dump_check::advice::advice_of;
 use acpi_dump_check::rules::rules;
 use acpi_dump_input::errors::Stop;
 use acpi_dump_input::judgement::Rule;
+use acpi_dump_summary::document::Document;
 use acpi_dump_walk::out::Out;
 use json::Token;
 

@@ -3,10 +3,10 @@
 //! The members of an object come in the order of their names.
 
 use super::Output;
-use crate::document::Document;
 use acpi_dump_check::rules::rules;
 use acpi_dump_input::entries::{Entry, Place, own_signature};
 use acpi_dump_input::judgement::{Finding, Judgement, Rule, Severity};
+use acpi_dump_summary::document::Document;
 use acpi_dump_walk::fields::print_text;
 use acpi_dump_walk::language::next_word;
 use acpi_dump_walk::out::Out;

@@ -1,10 +1,10 @@
 //! Single values of tables.
 
 use super::Output;
-use crate::document::Document;
 use crate::wanted::{Finder, Wanted};
 use acpi_dump_input::entries::Entry;
 use acpi_dump_input::errors::{Log, Stop, fail};
+use acpi_dump_summary::document::Document;
 use acpi_dump_walk::aml::{Ends, Object};
 use acpi_dump_walk::fields::{print_meaning, print_text, print_value};
 use acpi_dump_walk::language::Meaning;

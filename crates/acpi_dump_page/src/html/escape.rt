@@ -1,4 +1,6 @@
 //! Texts of tables, files and options, which stay texts in a page.
+ghost use Rattle.acpi_dump_page.specs.Html.{Escapes, html_of_byte};
+ghost use Rattle.acpi_dump_walk.specs.Printed.{Prints};
 
 use super::ids::Id;
 use acpi::sdt::Signature;
@@ -110,19 +112,29 @@ fn first_words(text: &str, most: usize) -> &str {
     }
 }
 
-/// Prints bytes as characters of a text or of an attribute in double quotes, in HTML or XML, those that aren't
-/// printable ASCII as `.`.
-pub fn print_escaped(bytes: &[u8], out: &mut Out) {
+/// Prints a byte as `print_escaped` does.
+fn print_byte(byte: u8, out: &mut Out)
+    ensures { Prints out.old out.new (html_of_byte byte) }
+{
+    match byte {
+        b'&' => out.text("&amp;"),
+        b'<' => out.text("&lt;"),
+        b'>' => out.text("&gt;"),
+        b'"' => out.text("&quot;"),
+        b'\'' => out.text("&#39;"),
+        0x20..=0x7e => out.bytes(&[byte]),
+        _ => out.text("."),
+    }
+}
+
+/// Prints bytes as characters of a text or of an attribute in quotes, in HTML or XML: `&`, `<`, `>` and the quotes as
+/// entities, and those that aren't printable ASCII as `.`. If memory runs out, only the first ones are printed.
+#[tactic(auto, using(crate::proofs::Escaped::escaping))]
+pub fn print_escaped(bytes: &[u8], out: &mut Out)
+    ensures { Escapes out.old out.new bytes.now }
+{
     for byte in bytes {
-        match *byte {
-            b'&' => out.text("&amp;"),
-            b'<' => out.text("&lt;"),
-            b'>' => out.text("&gt;"),
-            b'"' => out.text("&quot;"),
-            b'\'' => out.text("&#39;"),
-            0x20..=0x7e => out.bytes(&[*byte]),
-            _ => out.text("."),
-        }
+        print_byte(*byte, out);
     }
 }
 

@@ -8,6 +8,6 @@ abbrev pub invariant-loop-address : goal.invariant-loop-address
 invariant-loop-address l =
     All (IsPart (memory_of l.image)) (map (λ e. e.bytes.now) l.entries.items) × (0 < length l.entries.items)
 
-abbrev pub invariant-loop-led : goal.invariant-loop-led
-invariant-loop-led l =
+abbrev pub invariant-loop-pointer : goal.invariant-loop-pointer
+invariant-loop-pointer l =
     All (IsPart (memory_of l.image)) (map (λ e. e.bytes.now) l.entries.items) × (0 < length l.entries.items)

@@ -2,11 +2,12 @@
 
 use super::Document;
 use acpi_dump_walk::aml::Value;
-use acpi_dump_walk::aml::resources::{Descriptors, END, print_descriptor, tag_of};
-use acpi_dump_walk::aml::value::{
-    buffer_in, elements_of, has_ids, integer_in, is_eisa_id, next_element, print_eisa_id,
-    print_reference, resources_in, text_in, uuid_in,
+use acpi_dump_walk::aml::constant::{
+    buffer_in, elements_of, has_ids, integer_in, is_eisa_id, next_element, resources_in, text_in,
+    uuid_in,
 };
+use acpi_dump_walk::aml::resources::{Descriptors, END, print_descriptor, tag_of};
+use acpi_dump_walk::aml::value::{print_eisa_id, print_reference};
 use acpi_dump_walk::fields::print_guid_digits;
 use json::Token;
 

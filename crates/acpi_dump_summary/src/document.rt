@@ -19,10 +19,10 @@ use acpi_dump_walk::out::Out;
 use acpi_dump_walk::walk::{Field, Group, Show, ShowObjects};
 use constants::add_typed;
 use json::{Pretty, Token, is_number};
-pub(crate) use machine::{add_fact_lines, add_machine};
+pub use machine::{add_fact_lines, add_machine};
 use std::alloc::{AllocError, Global};
 use std::fmt::Display;
-pub(crate) use tables::{add_all, add_chosen};
+pub use tables::{Part, add_table};
 
 /// The version of the document's form.
 const VERSION: u64 = 1;
@@ -40,7 +40,7 @@ fn print_json(document: &[u8], out: &mut Out) {
 
 /// A document that is written piece by piece.
 #[derive(Drop)]
-pub(crate) struct Document<'d> {
+pub struct Document<'d> {
     pieces: Pretty,
     /// The names of the inputs.
     inputs: &'d [&'d str],
@@ -56,7 +56,7 @@ pub(crate) struct Document<'d> {
 
 impl<'d> Document<'d> {
     /// The beginning of a document, up to the list of what a view shows.
-    pub(crate) fn new(alloc: Global, inputs: &'d [&'d str], part: &'static str) -> Document<'d> {
+    pub fn new(alloc: Global, inputs: &'d [&'d str], part: &'static str) -> Document<'d> {
         let mut document = Document {
             pieces: Pretty::new(alloc),
             inputs,
@@ -74,7 +74,7 @@ impl<'d> Document<'d> {
     }
 
     /// The beginning of a document of another form than the program's own: an object.
-    pub(crate) fn of_other_form(alloc: Global) -> Document<'static> {
+    pub fn of_other_form(alloc: Global) -> Document<'static> {
         let mut document = Document {
             pieces: Pretty::new(alloc),
             inputs: &[],
@@ -88,7 +88,7 @@ impl<'d> Document<'d> {
     }
 
     /// Ends the list of what a view shows, and adds the inputs if they come after it.
-    pub(crate) fn end_list(&mut self) {
+    pub fn end_list(&mut self) {
         self.token(Token::EndArray);
         if self.part < "inputs" {
             self.inputs();
@@ -98,7 +98,7 @@ impl<'d> Document<'d> {
     /// Prints the document after the end of that list.
     ///
     /// Fails if memory for a piece was refused.
-    pub(crate) fn print(mut self, view: &str, out: &mut Out) -> Result<(), AllocError> {
+    pub fn print(mut self, view: &str, out: &mut Out) -> Result<(), AllocError> {
         self.end_list();
         self.end(view, out)
     }
@@ -106,7 +106,7 @@ impl<'d> Document<'d> {
     /// Prints the document, after its end: the view's name and the version.
     ///
     /// Fails if memory for a piece was refused.
-    pub(crate) fn end(mut self, view: &str, out: &mut Out) -> Result<(), AllocError> {
+    pub fn end(mut self, view: &str, out: &mut Out) -> Result<(), AllocError> {
         self.number("version", VERSION);
         self.text("view", view);
         self.finish(out)
@@ -115,7 +115,7 @@ impl<'d> Document<'d> {
     /// Prints the document after the end of its object.
     ///
     /// Fails if memory for a piece was refused.
-    pub(crate) fn finish(mut self, out: &mut Out) -> Result<(), AllocError> {
+    pub fn finish(mut self, out: &mut Out) -> Result<(), AllocError> {
         self.token(Token::EndObject);
         if self.is_refused {
             return Err(AllocError);
@@ -127,32 +127,32 @@ impl<'d> Document<'d> {
     }
 
     /// Adds a piece.
-    pub(crate) fn token(&mut self, token: Token<'_>)
+    pub fn token(&mut self, token: Token<'_>)
         requires { IsPrintable (token_of token) }
     {
         self.is_refused |= self.pieces.token(token).is_err();
     }
 
     /// Begins a member that is an object.
-    pub(crate) fn begin_object(&mut self, name: &str) {
+    pub fn begin_object(&mut self, name: &str) {
         self.token(Token::Key(name));
         self.token(Token::BeginObject);
     }
 
     /// Begins a member that is a list.
-    pub(crate) fn begin_list(&mut self, name: &str) {
+    pub fn begin_list(&mut self, name: &str) {
         self.token(Token::Key(name));
         self.token(Token::BeginArray);
     }
 
     /// Adds a text.
-    pub(crate) fn text(&mut self, name: &str, text: &str) {
+    pub fn text(&mut self, name: &str, text: &str) {
         self.token(Token::Key(name));
         self.token(Token::String(text));
     }
 
     /// Adds a number.
-    pub(crate) fn number(&mut self, name: &str, number: u64) {
+    pub fn number(&mut self, name: &str, number: u64) {
         self.token(Token::Key(name));
         self.digits(number)
     }
@@ -178,7 +178,7 @@ impl<'d> Document<'d> {
 
     /// Adds texts by their names, which stand in one text; of a name such as `help.text` an object with the text alone.
     /// One without letters is left out.
-    pub(crate) fn texts(&mut self, names: &str, texts: &[&str]) {
+    pub fn texts(&mut self, names: &str, texts: &[&str]) {
         for (name, text) in names.split(' ').zip(texts) {
             if text.is_empty() {
                 continue;
@@ -203,7 +203,7 @@ impl<'d> Document<'d> {
     }
 
     /// Adds a yes or no.
-    pub(crate) fn flag(&mut self, name: &str, is_so: bool) {
+    pub fn flag(&mut self, name: &str, is_so: bool) {
         self.token(Token::Key(name));
         self.token(Token::Bool(is_so));
     }
@@ -224,18 +224,18 @@ impl<'d> Document<'d> {
     }
 
     /// Adds what a value is as a text.
-    pub(crate) fn shown(&mut self, name: &str, value: &impl Display) {
+    pub fn shown(&mut self, name: &str, value: &impl Display) {
         write!(self.draft, "{value}");
         self.drafted(name)
     }
 
     /// Adds an address.
-    pub(crate) fn address(&mut self, name: &str, address: u64) {
+    pub fn address(&mut self, name: &str, address: u64) {
         self.shown(name, &format_args!("0x{address:x}"));
     }
 
     /// Adds a text of bytes, those that aren't printable ASCII as `.`.
-    pub(crate) fn letters(&mut self, name: &str, bytes: &[u8]) {
+    pub fn letters(&mut self, name: &str, bytes: &[u8]) {
         print_text(bytes, &mut self.draft);
         self.drafted(name)
     }

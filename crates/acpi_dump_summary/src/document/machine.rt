@@ -1,13 +1,13 @@
 //! A summary in a document: its lines, and the machine as an object with a member for each subject.
 
 use super::Document;
-use crate::summary::{Member, Span, Value};
+use crate::machine::{Member, Span, Value};
 use acpi_dump_walk::language::cut_at;
 use acpi_dump_walk::out::Out;
 use json::{Token, is_number};
 
 /// Adds the lines of facts.
-pub(crate) fn add_fact_lines(document: &mut Document<'_>, facts: &str) {
+pub fn add_fact_lines(document: &mut Document<'_>, facts: &str) {
     for fact in facts.lines() {
         let (name, text) = cut_at(fact, '\t');
         document.token(Token::BeginObject);
@@ -18,7 +18,7 @@ pub(crate) fn add_fact_lines(document: &mut Document<'_>, facts: &str) {
 }
 
 /// Adds the machine by its members, in the order of the subjects, the objects and the names.
-pub(crate) fn add_machine(document: &mut Document<'_>, members: &[Member], lines: &str) {
+pub fn add_machine(document: &mut Document<'_>, members: &[Member], lines: &str) {
     document.token(Token::Key("machine"));
     document.token(Token::BeginObject);
     for of_subject in members.chunk_by(|one, next| one.subject == next.subject) {

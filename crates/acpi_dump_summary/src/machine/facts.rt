@@ -10,14 +10,14 @@ use std::fmt::Display;
 
 /// A part of the lines.
 #[derive(Clone, Copy)]
-pub(crate) struct Span {
-    pub(crate) start: usize,
-    pub(crate) end: usize,
+pub struct Span {
+    pub start: usize,
+    pub end: usize,
 }
 
 /// What a member is.
 #[derive(Clone, Copy)]
-pub(crate) enum Value {
+pub enum Value {
     Number(u64),
     /// A number that may have more than four bytes.
     Wide(u64),
@@ -33,21 +33,21 @@ pub(crate) enum Value {
 
 /// A member of an object.
 #[derive(Clone, Copy)]
-pub(crate) struct Member {
+pub struct Member {
     /// What the object is, with `[]` at the end if there may be several.
-    pub(crate) subject: &'static str,
+    pub subject: &'static str,
     /// Which object it is.
-    pub(crate) object: u64,
+    pub object: u64,
     /// Its name, with `[]` at the end if it is a list.
-    pub(crate) name: &'static str,
-    pub(crate) value: Value,
+    pub name: &'static str,
+    pub value: Value,
 }
 
 /// The facts of a machine.
 #[derive(Drop)]
-pub(crate) struct Facts {
+pub struct Facts {
     /// The lines: a name, a tab, and what holds.
-    pub(crate) lines: Out,
+    pub lines: Out,
     members: Vec<Member>,
     subject: &'static str,
     object: u64,
@@ -55,7 +55,7 @@ pub(crate) struct Facts {
 
 impl Facts {
     /// No facts.
-    pub(crate) fn new(alloc: Global) -> Facts {
+    pub fn new(alloc: Global) -> Facts {
         Facts {
             lines: Out::new(alloc),
             members: Vec::new(alloc),
@@ -65,18 +65,18 @@ impl Facts {
     }
 
     /// The lines, and the members.
-    pub(crate) fn into_parts(self) -> (Out, Vec<Member>) {
+    pub fn into_parts(self) -> (Out, Vec<Member>) {
         let Facts { lines, members, .. } = self;
         (lines, members)
     }
 
     /// The allocator.
-    pub(crate) fn allocator(&self) -> Global {
+    pub fn allocator(&self) -> Global {
         self.lines.allocator()
     }
 
     /// Begins a line, and an object of a subject.
-    pub(crate) fn begin(&mut self, subject: &'static str, words: &'static str, numbers: &[u64]) {
+    pub fn begin(&mut self, subject: &'static str, words: &'static str, numbers: &[u64]) {
         if self.lines.length() > 0 {
             self.lines.text("\n");
         }
@@ -87,7 +87,7 @@ impl Facts {
 
     /// Adds words, with the next number in place of each name in braces: a member of this name. One whose name comes
     /// after `#` is printed in hexadecimal digits.
-    pub(crate) fn words(&mut self, words: &'static str, numbers: &[u64]) {
+    pub fn words(&mut self, words: &'static str, numbers: &[u64]) {
         let mut rest = numbers;
         for piece in words.split('}') {
             let (text, name) = cut_at(piece, '{');
@@ -116,7 +116,7 @@ impl Facts {
     }
 
     /// Adds a member that no line has.
-    pub(crate) fn member(&mut self, name: &'static str, value: Value) {
+    pub fn member(&mut self, name: &'static str, value: Value) {
         let member = Member {
             subject: self.subject,
             object: self.object,
@@ -129,18 +129,18 @@ impl Facts {
     }
 
     /// Adds words that are no member.
-    pub(crate) fn text(&mut self, words: &str) {
+    pub fn text(&mut self, words: &str) {
         self.lines.text(words)
     }
 
     /// The lines from a place on.
-    pub(crate) fn since(&self, start: usize) -> Span {
+    pub fn since(&self, start: usize) -> Span {
         let end = self.lines.length();
         Span { start, end }
     }
 
     /// Adds a text.
-    pub(crate) fn shown(&mut self, name: &'static str, text: &impl Display) {
+    pub fn shown(&mut self, name: &'static str, text: &impl Display) {
         let start = self.lines.length();
         self.lines.value(text);
         let span = self.since(start);
@@ -148,7 +148,7 @@ impl Facts {
     }
 
     /// Adds a code by what it means.
-    pub(crate) fn code(&mut self, name: &'static str, code: u8, meaning: &impl Display) {
+    pub fn code(&mut self, name: &'static str, code: u8, meaning: &impl Display) {
         let start = self.lines.length();
         write!(self.lines, "{meaning}");
         let span = self.since(start);
@@ -156,21 +156,21 @@ impl Facts {
     }
 
     /// Adds a number of bytes.
-    pub(crate) fn size(&mut self, name: &'static str, bytes: u64) {
+    pub fn size(&mut self, name: &'static str, bytes: u64) {
         let (size, unit) = size_of(bytes);
         write!(self.lines, "{size} {unit}");
         self.member(name, Value::Wide(bytes))
     }
 
     /// Adds where a register is.
-    pub(crate) fn register(&mut self, base: &GenericAddress) {
+    pub fn register(&mut self, base: &GenericAddress) {
         let space = base.address_space;
         self.code("space", space.code(), &format_args!("{space:?}"));
         self.words(" {#address}", &[base.address])
     }
 
     /// Adds why a part isn't known.
-    pub(crate) fn refused(&mut self, part: &'static str, refusal: AcpiError) {
+    pub fn refused(&mut self, part: &'static str, refusal: AcpiError) {
         self.begin("not_known[]", "", &[]);
         self.shown("part", &part);
         self.text("\tnot known: ");

@@ -92,7 +92,7 @@ fn add_row(facts: &mut Facts, matrix: Matrix<'_>, row: usize) {
 }
 
 /// Adds what the domains of the SRATs and HMATs have that are read.
-pub(crate) fn add_domains(entries: &[Entry<'_>], facts: &mut Facts) -> Result<(), AllocError> {
+pub fn add_domains(entries: &[Entry<'_>], facts: &mut Facts) -> Result<(), AllocError> {
     for entry in entries {
         let table = entry.table();
         if !entry.status.is_read() {

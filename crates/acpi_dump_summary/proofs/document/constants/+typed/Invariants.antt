@@ -1,5 +1,5 @@
 use Rattle.std.proofs.Common.{◌+◌, ◌*◌}
-use Rattle.acpi_dump_lib.proofs.document.constants.+typed.Given as goal
+use Rattle.acpi_dump_summary.proofs.document.constants.+typed.Given as goal
 
 -- a package's elements are a package less deep, and a call for one of them isn't a call for its elements
 abbrev pub decreases-add_constant : goal.decreases-add_constant

@@ -175,7 +175,7 @@ fn print_fact(shown: &Field<'_>, is_size: bool, out: &mut Out) {
 }
 
 /// Adds the units of the tables that are read.
-pub(crate) fn add_units(entries: &[Entry<'_>], facts: &mut Facts) {
+pub fn add_units(entries: &[Entry<'_>], facts: &mut Facts) {
     for entry in entries {
         if entry.status.is_read() && has_units(entry.bytes) {
             let mut units = Units {

@@ -1,12 +1,7 @@
 //! The tables in a document.
 
 use super::Document;
-use crate::code::{is_code, show_code};
-use crate::contents::shows;
-use crate::options::{Choice, Contents};
-use acpi::PhysicalRecord;
-use acpi::sdt::SdtHeader;
-use acpi_dump_code::{Known, ShowCode};
+use acpi_dump_code::{Known, ShowCode, list_table};
 use acpi_dump_compare::compare::code::Code;
 use acpi_dump_compare::compare::{Difference, ShowDifferences};
 use acpi_dump_input::entries::{Entry, Place, header_of};
@@ -16,11 +11,13 @@ use json::Token;
 
 /// What is shown of a table beside where it is, its header and what the checks say.
 #[derive(Clone, Copy)]
-enum Part<'p> {
+pub enum Part<'p> {
     Nothing,
-    /// All fields, or all bytes.
-    Whole(Contents),
-    /// All operations.
+    /// All fields, and all objects of AML.
+    Fields,
+    /// All bytes.
+    Bytes,
+    /// All operations of AML, by what names stand for.
     Code(&'p Known<'p>),
     /// The fields in which it differs from another table.
     Changed(&'p [Difference<'p>]),
@@ -64,8 +61,8 @@ fn add_header(document: &mut Document<'_>, header: &[u8], fields: &[(&str, usize
     }
 }
 
-/// Adds a table.
-fn add_table(document: &mut Document<'_>, entry: &Entry<'_>, part: Part<'_>) {
+/// Adds a table, valid or not, to the list that is open.
+pub fn add_table(document: &mut Document<'_>, entry: &Entry<'_>, part: Part<'_>) {
     let header = if header_of(entry).is_some() {
         entry.bytes
     } else {
@@ -75,7 +72,7 @@ fn add_table(document: &mut Document<'_>, entry: &Entry<'_>, part: Part<'_>) {
     if let Place::Address(address) = entry.place {
         document.address("address", address);
     }
-    if let Part::Whole(Contents::Bytes) = part {
+    if let Part::Bytes = part {
         document.hex("bytes", entry.bytes);
     }
     if let Part::Code(known) = part {
@@ -101,7 +98,7 @@ fn add_table(document: &mut Document<'_>, entry: &Entry<'_>, part: Part<'_>) {
 
 /// Adds the fields of a table, if they are shown.
 fn add_fields(document: &mut Document<'_>, entry: &Entry<'_>, part: Part<'_>) {
-    if !matches!(part, Part::Whole(Contents::Fields) | Part::Changed(_)) {
+    if !matches!(part, Part::Fields | Part::Changed(_)) {
         return;
     }
     document.begin_list("fields");
@@ -193,35 +190,7 @@ impl ShowCode for Document<'_> {
 fn add_code(document: &mut Document<'_>, known: &Known<'_>, entry: &Entry<'_>) {
     document.begin_list("code");
     let alloc = document.draft.allocator();
-    let listed = show_code(alloc, known, entry, document);
+    let listed = list_table(alloc, known, entry.bytes, document);
     document.is_refused |= listed.is_err();
     document.token(Token::EndArray);
-}
-
-/// Adds tables, without their contents.
-pub(crate) fn add_all(document: &mut Document<'_>, entries: &[Entry<'_>]) {
-    for entry in entries {
-        add_table(document, entry, Part::Nothing);
-    }
-}
-
-/// Adds the tables that are chosen, with their contents, choice by choice.
-pub(crate) fn add_chosen(
-    document: &mut Document<'_>,
-    entries: &[Entry<'_>],
-    choices: &[Choice],
-    known: &Known<'_>,
-) {
-    for (number, choice) in choices.iter().enumerate() {
-        for entry in entries {
-            if shows(choices, number, entry) {
-                let part = match choice.contents {
-                    Contents::Code if is_code(entry) => Part::Code(&*known),
-                    Contents::Code => Part::Whole(Contents::Fields),
-                    contents => Part::Whole(contents),
-                };
-                add_table(document, entry, part);
-            }
-        }
-    }
 }

@@ -18,12 +18,12 @@ use acpi::{AcpiError, AcpiHandler, AcpiTables, HpetInfo, PciConfigRegions, Platf
 use acpi_arm::gic::GicModel;
 use acpi_numa::{MemoryAffinities, MemoryRange, Slit, Srat};
 use domains::add_distances;
-pub(crate) use domains::add_domains;
-pub(crate) use facts::{Facts, Member, Span, Value};
+pub use domains::add_domains;
+pub use facts::{Facts, Member, Span, Value};
 use gic::add_gic;
 use processors::add_rows;
 use std::alloc::Global;
-pub(crate) use units::add_units;
+pub use units::add_units;
 
 /// Adds why a part isn't known, unless it isn't there.
 fn add_unless_missing(facts: &mut Facts, name: &'static str, refusal: AcpiError) {
@@ -33,7 +33,7 @@ fn add_unless_missing(facts: &mut Facts, name: &'static str, refusal: AcpiError)
 }
 
 /// Adds the facts of a machine's tables.
-pub(crate) fn add_facts<H: AcpiHandler>(tables: &AcpiTables<'_, H>, facts: &mut Facts) {
+pub fn add_facts<H: AcpiHandler>(tables: &AcpiTables<'_, H>, facts: &mut Facts) {
     match &tables.find_table::<Srat>() {
         Ok(srat) => add_platform(tables, srat.bytes(), facts),
         Err(_) => add_platform(tables, &[], facts),
