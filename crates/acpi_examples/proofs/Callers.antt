@@ -4,12 +4,12 @@ use Rattle.std.proofs.Common.{◌≡◌, ℕ, suc, List, [], ◌∷◌, drop, le
 use Rattle.std.specs.List.{cons_option}
 use Rattle.std.specs.Result.{result_ok}
 use Rattle.std.proofs.lemmas.List.{length-map}
-use Rattle.acpi_base.specs.Header.{header_at}
-use Rattle.acpi_base.specs.Memory.{Memory}
-use Rattle.acpi_base.specs.Steps.{◌>>=◌}
+use Rattle.acpi_bytes.specs.Header.{header_at}
+use Rattle.acpi_bytes.specs.Memory.{Memory}
+use Rattle.acpi_bytes.specs.Steps.{◌>>=◌}
 use Rattle.acpi_base.specs.Words.{own_table_at}
-use Rattle.acpi_base.specs.declared.error.AcpiError.{AcpiError}
-use Rattle.acpi_base.specs.declared.table.header.SdtHeader.{SdtHeader}
+use Rattle.acpi_bytes.specs.declared.error.AcpiError.{AcpiError}
+use Rattle.acpi_bytes.specs.declared.header.SdtHeader.{SdtHeader}
 use Rattle.acpi.specs.Lists.{own_header_at, valid_headers, valid_tables}
 use Rattle.acpi.specs.Opened.{Opened, opened_by_rsdp}
 use Rattle.acpi.specs.Root.{pointers, width_of}

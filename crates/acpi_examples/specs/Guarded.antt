@@ -1,10 +1,10 @@
 -- The ranges that the guarded caller requests.
 use Rattle.std.specs.Prelude.{ℕ}
-use Rattle.acpi_base.specs.declared.table.signature.TheConstants.Signature.{BGRT}
-use Rattle.acpi_base.specs.Header.{check_table}
-use Rattle.acpi_base.specs.Memory.{Memory}
+use Rattle.acpi_bytes.specs.declared.signature.TheConstants.Signature.{BGRT}
+use Rattle.acpi_bytes.specs.Header.{check_table}
+use Rattle.acpi_bytes.specs.Memory.{Memory}
 use Rattle.acpi_base.specs.Ranges.{Ranges}
-use Rattle.acpi_base.specs.Table.{kind}
+use Rattle.acpi_bytes.specs.Table.{kind}
 use Rattle.acpi.specs.Footprint.{lookup_ranges}
 use Rattle.acpi.specs.OpenedRanges.{root_and_ranges}
 use Rattle.acpi.specs.Root.{root_of_revision}

@@ -1,7 +1,7 @@
 //! A caller that writes the processors of a guest's machine.
 ghost use Rattle.std.specs.Prelude.{take, IfOk};
-ghost use Rattle.acpi_base.specs.declared.table.signature.TheConstants.Signature.{MADT};
-ghost use Rattle.acpi_writer.specs.Table.{IsValid};
+ghost use Rattle.acpi_bytes.specs.declared.signature.TheConstants.Signature.{MADT};
+ghost use Rattle.acpi_table_writer.specs.Table.{IsValid};
 
 use acpi_base::model::IoApic;
 use acpi_writer::laws::tables_are_valid;

@@ -14,8 +14,8 @@ pub struct Wsmt {
 }
 
 impl PhysicalRecord for Wsmt {
-    ghost use Rattle.acpi_base.specs.Bytes.{field_of};
-    ghost use Rattle.acpi_base.specs.Header.{header_at};
+    ghost use Rattle.acpi_bytes.specs.Bytes.{field_of};
+    ghost use Rattle.acpi_bytes.specs.Header.{header_at};
 
     const MIN_LENGTH: usize = 40;
 
@@ -33,7 +33,7 @@ impl PhysicalRecord for Wsmt {
 
 impl SdtTable for Wsmt {
     ghost use Rattle.std.proofs.Common.{lit≤};
-    ghost use Rattle.acpi_base.specs.declared.table.signature.TheConstants.Signature.{WSMT};
+    ghost use Rattle.acpi_bytes.specs.declared.signature.TheConstants.Signature.{WSMT};
 
     const NAME: Signature = Signature::WSMT;
 

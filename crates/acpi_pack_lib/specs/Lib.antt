@@ -10,6 +10,6 @@ pub mod Reads
 pub mod Sources
 pub mod Sums
 pub mod Texts
-pub mod Told
+pub mod Help
 pub mod Arguments
 pub mod Words

@@ -94,5 +94,5 @@ Packs r files (outcome.Shown text) = ⊥
 abbrev pub BecomesOf : Option (List ℕ) → Option Request → List (Option (List ℕ)) → Outcome → Type 0
 BecomesOf (Some text) request files (outcome.Shown shown) = shown.now ≡ text
 BecomesOf None None files (outcome.Refused text status) = (string_bytes text ≡ usage_line) × (status ≡ 2)
-BecomesOf None (Some r) files said = Packs r (sources_for r files) said
-BecomesOf told request files said = ⊥
+BecomesOf None (Some r) files reached = Packs r (sources_for r files) reached
+BecomesOf printed request files reached = ⊥

@@ -20,6 +20,10 @@ pub use Rattle.acpi_pack_lib.specs.Held.{
   region_at,
   regions_left,
 }
+pub use Rattle.acpi_pack_lib.specs.Help.{
+  help_or_version_of,
+  text_of_argument,
+}
 pub use Rattle.acpi_pack_lib.specs.Listing.{
   AreNamed,
   label_text,
@@ -117,10 +121,6 @@ unfoldable pub use Rattle.acpi_pack_lib.specs.Sums.{summed}
 pub use Rattle.acpi_pack_lib.specs.Texts.{
   file_error_text,
   refusal_text,
-}
-pub use Rattle.acpi_pack_lib.specs.Told.{
-  told_of,
-  told_to,
 }
 pub use Rattle.acpi_pack_lib.specs.declared.error.Refusal.{Refusal}
 pub use Rattle.acpi_pack_lib.specs.declared.error.Refusal.TheVariants.{

@@ -1,6 +1,6 @@
 //! The help and the version that the program prints.
 ghost use Rattle.std.specs.Prelude.{◌≡◌, map, option_map};
-ghost use Rattle.acpi_pack_lib.specs.Words.{told_of, told_to};
+ghost use Rattle.acpi_pack_lib.specs.Words.{help_or_version_of, text_of_argument};
 
 /// The line on how the program packs.
 pub(crate) const USAGE: &str =
@@ -16,8 +16,8 @@ const HELP: &str =
 const VERSION: &str = "acpi_pack 1.0.0\n";
 
 /// The text that an argument requests, or `None` if it requests none.
-fn told_to(argument: &str) -> Option<&'static str>
-    ensures { option_map (λ t. t.now) result ≡ told_to argument.now }
+fn text_of_argument(argument: &str) -> Option<&'static str>
+    ensures { option_map (λ t. t.now) result ≡ text_of_argument argument.now }
 {
     match argument {
         "--help" => Some(HELP),
@@ -28,11 +28,11 @@ fn told_to(argument: &str) -> Option<&'static str>
 
 /// The text that arguments request, or `None` if they request none: how the program is called for `--help`
 /// alone, and its version for `--version` alone.
-pub(crate) fn told(arguments: &[&str]) -> Option<&'static str>
-    ensures { option_map (λ t. t.now) result ≡ told_of (map (λ w. w.now) arguments.now) }
+pub(crate) fn help_or_version(arguments: &[&str]) -> Option<&'static str>
+    ensures { option_map (λ t. t.now) result ≡ help_or_version_of (map (λ w. w.now) arguments.now) }
 {
     match arguments {
-        [argument] => told_to(argument),
+        [argument] => text_of_argument(argument),
         _ => None,
     }
 }

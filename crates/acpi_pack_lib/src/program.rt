@@ -5,7 +5,7 @@ ghost use Rattle.acpi_pack_lib.specs.Words.{Does, IsOutcome, Runs, SavesOutcome,
 
 use crate::arguments::parse_command;
 use crate::files::{Files, count};
-use crate::help::{USAGE, told};
+use crate::help::{USAGE, help_or_version};
 use crate::outcome::{Outcome, outcome_of};
 use crate::reading::{contents_from, read_all};
 use acpi_cli::storage::Storage;
@@ -27,7 +27,7 @@ fn outcome_for<'w, F: Files>(
     ensures refused { OnErr result (AsksFront (files_named (map (λ w. w.now) arguments.now))
         (F.asked files.old) (F.asked files.new)) }
 {
-    if let Some(text) = told(arguments) {
+    if let Some(text) = help_or_version(arguments) {
         return Ok(Outcome::Shown(text));
     }
     let Some(command) = parse_command(alloc, arguments)? else {

@@ -12,7 +12,7 @@ pub(crate) struct Exact<'a, H: AcpiHandler> {
 impl<'a, H: AcpiHandler> AcpiHandler for Exact<'a, H> {
     ghost memory = { λ e. H.memory e.inner.now };
 
-    #[tactic(auto, using(acpi_base::proofs::LentRanges::at_front_of))]
+    #[tactic(auto, using(acpi_bytes::proofs::LentRanges::at_front_of))]
     fn map_physical_region(&self, address: u64, size: usize) -> AcpiResult<&[u8]> {
         let lent = self.inner.map_physical_region(address, size)?;
         Ok(&lent[..size])

@@ -6,7 +6,8 @@
 //! - `dsdt`, `facs`, `sleep STATE`, `sdt SIGNATURE` (where the first of these is), `fadt_view` (where the FADT is, and
 //!   then, while its bytes are mapped, where it places the DSDT) and `checks` (how often the returned table was
 //!   checked);
-//! - `hpet_info`, and `wake ID READS COMMAND ..`, by a mailbox that has these commands when read, as often at most;
+//! - `hpet_info`, `hpet_address` (where its registers are), and `wake ID READS COMMAND ..`, by a mailbox that has these
+//!   commands when read, as often at most;
 //! - calls that need memory (`gathered`), and `platforms WAY`, by each of the four calls for a platform;
 //! - `KIND CALL`, about a type of table (`types`).
 
@@ -62,6 +63,10 @@ fn alone<H: AcpiHandler>(out: Out<'_>, tables: &AcpiTables<'_, H>, call: &str, r
             Err(refusal) => out.show(&refusal),
         },
         "hpet_info" => print_timers(out, HpetInfo::new(tables)),
+        "hpet_address" => match HpetInfo::new(tables) {
+            Ok(info) => out.show(&info.base_address),
+            Err(refusal) => out.show(&refusal),
+        },
         "wake" => wake(out, tables, rest),
         "platforms" => platforms(out, tables, number_of(rest)),
         "platform" | "regions" | "gic" | "memory" | "address" | "ecam" | "domain" | "processor" => {

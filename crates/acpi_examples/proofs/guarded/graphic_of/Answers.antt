@@ -1,7 +1,7 @@
 use Rattle.acpi_base.proofs.AllowedRanges.{all_front}
-use Rattle.acpi_base.specs.declared.table.signature.TheConstants.Signature.{BGRT}
-use Rattle.acpi_base.specs.Header.{check_table}
-use Rattle.acpi_base.specs.Table.{kind}
+use Rattle.acpi_bytes.specs.declared.signature.TheConstants.Signature.{BGRT}
+use Rattle.acpi_bytes.specs.Header.{check_table}
+use Rattle.acpi_bytes.specs.Table.{kind}
 use Rattle.acpi.proofs.Asked.{asked_below}
 use Rattle.acpi.specs.Footprint.{lookup_ranges}
 use Rattle.acpi.specs.OpenedRanges.{opened_ranges}

@@ -1,10 +1,10 @@
 use Rattle.std.proofs.Common.{ℕ, List, take, IfOk, Result, Ok, Err}
-use Rattle.acpi_base.specs.declared.table.signature.TheConstants.Signature.{MADT}
-use Rattle.acpi_writer.specs.MadtLaws.{IsMadt, MadtIsValid}
-use Rattle.acpi_writer.specs.Table.{IsValid}
-use Rattle.acpi_writer.specs.declared.error.WriterError.{WriterError}
-use Rattle.acpi_writer.specs.declared.ids.TableIds.{TableIds}
-use Rattle.acpi_writer.specs.Types.{MadtContents}
+use Rattle.acpi_bytes.specs.declared.signature.TheConstants.Signature.{MADT}
+use Rattle.acpi_table_writer.specs.MadtLaws.{IsMadt, MadtIsValid}
+use Rattle.acpi_table_writer.specs.Table.{IsValid}
+use Rattle.acpi_table_writer.specs.declared.error.WriterError.{WriterError}
+use Rattle.acpi_table_writer.specs.declared.ids.TableIds.{TableIds}
+use Rattle.acpi_table_writer.specs.Words.{MadtContents}
 use Rattle.acpi_examples.proofs.machine.write_processors.Goals as goal
 
 -- the law of the tables that are written, for one that was

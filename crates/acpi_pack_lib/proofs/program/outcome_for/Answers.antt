@@ -2,7 +2,7 @@
 use Rattle.std.proofs.Common.{◌≡◌, ◌∙◌, ℕ, Bor, List, [], IfOk, OnErr, ap, drop, length, map, option_map, refl, subst, sym, Option, Some, None, Result, Ok, Err}
 use Rattle.acpi_base.proofs.FromStd.{drop-append_seam, append-nil}
 use Rattle.acpi_pack_lib.specs.Reads.{Asks, FileRead, contents_of}
-use Rattle.acpi_pack_lib.specs.Words.{IsOutcome, IsOutcomeFor, Packs, Request, contents, request_in, request_of, sources_for, told_of}
+use Rattle.acpi_pack_lib.specs.Words.{IsOutcome, IsOutcomeFor, Packs, Request, contents, request_in, request_of, sources_for, help_or_version_of}
 use Rattle.acpi_pack_lib.specs.declared.arguments.Command.{Command}
 use Rattle.acpi_pack_lib.specs.declared.outcome.Outcome.{Outcome}
 use Rattle.acpi_pack_lib.proofs.program.outcome_for.Goals as goal
@@ -14,7 +14,7 @@ on_err (Err e) P p = p
 -- what was read since is what is packed
 read_since : {E : Type 0} (result : Result Outcome E) (arguments : List (List ℕ)) (r : Request) (names : List (List ℕ))
     (before after : List FileRead) (start : ℕ) (kept : List (Option (List ℕ)))
-    → told_of arguments ≡ None → request_in arguments ≡ Some r → names ≡ r.names → Asks names before after
+    → help_or_version_of arguments ≡ None → request_in arguments ≡ Some r → names ≡ r.names → Asks names before after
     → start ≡ length before → kept ≡ contents_of (drop start after)
     → IfOk result (λ o. Packs r (sources_for r kept) o) → IfOk result (λ o. IsOutcome arguments before after o)
 read_since (Ok o) arguments r names before after start kept untold requested named asks at_start are_read packs =
@@ -43,7 +43,7 @@ pub returns-clause-exact : goal.returns-clause-exact
 returns-clause-exact g c =
     read_since c.outcome_of.result (map (λ w. w.now) c.args.arguments.now) (request_of c.in-Some-2.command) _ _ _
     c.count-start.result _
-    (sym c.told.ensures ∙ ap (λ (t : Option (Bor (List ℕ))). option_map (λ n. n.now) t) c.in_default.is)
+    (sym c.help_or_version.ensures ∙ ap (λ (t : Option (Bor (List ℕ))). option_map (λ n. n.now) t) c.in_default.is)
     (sym c.in_ok-command.ensures ∙ ap (λ (o : Option Command). option_map request_of o) c.in-Some-2.is)
     (ap (map (λ n. n.now)) c.deref.ensures.value) c.in_ok-read_all.ensures.asked c.count-start.ensures
     (ap contents c.deref-2.ensures.value ∙ c.in_ok-sources.ensures) c.outcome_of.ensures

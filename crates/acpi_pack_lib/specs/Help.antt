@@ -10,13 +10,13 @@ abbrev pub version_text : List ℕ
 version_text = codes "acpi_pack 1.0.0\n"
 
 -- what is printed for a single argument that requests it
-abbrev pub told_to : List ℕ → Option (List ℕ)
-told_to argument =
+abbrev pub text_of_argument : List ℕ → Option (List ℕ)
+text_of_argument argument =
     if bytes_eq argument (codes "--help") then Some help_text
     else if bytes_eq argument (codes "--version") then Some version_text
     else None
 
 -- what is printed for arguments that request it
-abbrev pub told_of : List (List ℕ) → Option (List ℕ)
-told_of (argument ∷ []) = told_to argument
-told_of _ = None
+abbrev pub help_or_version_of : List (List ℕ) → Option (List ℕ)
+help_or_version_of (argument ∷ []) = text_of_argument argument
+help_or_version_of _ = None
