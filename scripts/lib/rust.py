@@ -1,25 +1,35 @@
 # SPDX-License-Identifier: MIT
 """How the structs of zacpi.h are in Rust, for the scripts that make the records and the exports of the crates: in which
-file of acpi_c_lib each is, and which fields it has."""
+file of which crate each is, and which fields it has."""
 import re
 import sys
 from pathlib import Path
 from lib.header import ROOT, declared, lists, structs
 
-CRATE = ROOT / 'crates/acpi_c_lib/src'
-FILES = { # each file, what is in it, and the first words of the sections of the header whose structs are there
-    'records': ('memory, tables, registers and devices', ['Memory', 'Tables', 'PCI']),
-    'fixed_records': ('the fixed hardware, the serial console and configuration space', ['Fixed hardware']),
-    'power_records': ('sleep types, and of what to write to sleep, to enable ACPI and to reset', ['Power']),
-    'interrupt_records': ('interrupts and processors of a machine with APICs', ['Interrupts']),
-    'arm_records': ('an Arm machine', ['Arm']),
-    'numa_records': ('domains and of the distances between localities', ['NUMA']),
-    'iommu_records': ("the units that remap devices' accesses to memory", ['IOMMUs']),
-    'written_records': ('the tables that are to be written', ['Tables that are written', 'A whole machine']),
+# The crates of the calls, from the lowest up.
+CRATES = ['acpi_c_lib', 'acpi_c_interrupts', 'acpi_c_devices', 'acpi_c_machine']
+FILES = { # each module, what is in it, and the first words of the sections of the header whose structs are there
+    'acpi_c_lib::records': ('memory and tables', ['Memory', 'Tables']),
+    'acpi_c_interrupts::apics::records': ('interrupts and processors of a machine with APICs', ['Interrupts']),
+    'acpi_c_interrupts::arm::records': ('an Arm machine', ['Arm']),
+    'acpi_c_interrupts::written_records': ('the tables of interrupts and timers that are to be written', []),
+    'acpi_c_devices::records': ('registers and devices', ['PCI']),
+    'acpi_c_devices::fixed::records': ('the fixed hardware, the serial console and configuration space',
+                                       ['Fixed hardware']),
+    'acpi_c_devices::power::records': ('sleep types, and of what to write to sleep, to enable ACPI and to reset',
+                                       ['Power']),
+    'acpi_c_devices::numa::records': ('domains and of the distances between localities', ['NUMA']),
+    'acpi_c_devices::iommu::records': ("the units that remap devices' accesses to memory", ['IOMMUs']),
+    'acpi_c_devices::written_records': ('the tables of devices and domains that are to be written', []),
+    'acpi_c_machine::written_records': ('a machine whose tables are to be written',
+                                        ['Tables that are written', 'A whole machine']),
 }
 ELSEWHERE = { # those that are in another file than their section's
-    'GenericAddress': 'records', 'Register': 'records', 'PmTimer': 'records', 'HpetInfo': 'records',
-    'BootGraphic': 'records', 'Facs': 'records', 'EcamRange': 'fixed_records',
+    **dict.fromkeys(['GenericAddress', 'Register', 'PmTimer', 'HpetInfo', 'BootGraphic'], 'acpi_c_devices::records'),
+    'Facs': 'acpi_c_lib::records', 'EcamRange': 'acpi_c_devices::fixed::records',
+    **dict.fromkeys(['MadtContents', 'GicContents', 'PlatformTimer', 'GtdtContents'],
+                    'acpi_c_interrupts::written_records'),
+    **dict.fromkeys(['SratContents', 'SpcrContents', 'FacsContents'], 'acpi_c_devices::written_records'),
 }
 RECORD = r"#\[repr\(C\)\]\n(?:#.*\n)*pub struct (\w+)(?:<'\w+>)? \{\n((?: .*\n)*)\}"
 NUMBERS = {'uint8_t': 'u8', 'uint16_t': 'u16', 'uint32_t': 'u32', 'uint64_t': 'u64', 'zacpi_u64': 'u64',
@@ -58,27 +68,40 @@ by_name = {rust_name(name): fields for name, fields in structs.items()}
 lending = {name for name, fields in by_name.items() if list(lists(fields))}
 
 
+def module_of(file):
+    """The path of a source file's module, which begins with its crate."""
+    crate, _, *parts = file.relative_to(ROOT / 'crates').with_suffix('').parts
+    return '::'.join([crate, *parts])
+
+
+def source_of(module):
+    """The file of a module."""
+    crate, *parts = module.split('::')
+    return (ROOT / 'crates' / crate / 'src').joinpath(*parts).with_suffix('.rt')
+
+
 def by_hand():
-    """The crate of each record that no script makes; stops at one that isn't as the header has it."""
+    """The module, or the crate below, of each record that no script makes; stops at one that isn't as in the header."""
     found = {}
-    for crate in ('acpi_c_lib', 'acpi_iommu', 'acpi_riscv', 'acpi_writer'):
+    for crate in (*CRATES, 'acpi_iommu', 'acpi_riscv', 'acpi_table_writer'):
         for file in sorted((ROOT / 'crates' / crate / 'src').rglob('*.rt')):
             text = re.sub(r'(?m)^ *//.*\n', '', file.read_text())
             for name, body in re.findall(RECORD, text):
-                if file.parent == CRATE and file.stem in FILES:
+                if module_of(file) in FILES:
                     continue
                 has = [(field, re.sub(r"'\w+", "'a", kind)) for field, kind in re.findall(r'pub (\w+): (.*),\n', body)]
                 if has != list(rust_fields(by_name[name])):
                     sys.exit(f'{file.relative_to(ROOT)}: {name} has other fields than in the header')
-                found[name] = f'crate::{file.stem}' if crate == 'acpi_c_lib' else crate
+                found[name] = module_of(file) if crate in CRATES else crate
     return found
 
 
 def defaults():
-    """The records of which the crate's sources call default(), and those that are in them."""
+    """The records of which the crates' sources call default(), and those that are in them."""
     called = set()
-    for file in CRATE.rglob('*.rt'):
-        called |= set(re.findall(r'\b(\w+)::default\(\)', file.read_text()))
+    for crate in CRATES:
+        for file in (ROOT / 'crates' / crate / 'src').rglob('*.rt'):
+            called |= set(re.findall(r'\b(\w+)::default\(\)', file.read_text()))
     while True:
         more = called | {kind for name in called & set(by_name) for _, kind in rust_fields(by_name[name])}
         if more == called:
@@ -120,5 +143,6 @@ def write(made):
         if sys.argv[1:] == ['--check']:
             print(f'{path.relative_to(ROOT)} is not what {Path(sys.argv[0]).name} makes')
         else:
+            path.parent.mkdir(exist_ok=True)
             path.write_text(made[path])
     sys.exit(bool(wrong) and sys.argv[1:] == ['--check'])
