@@ -39,14 +39,22 @@ class Same:
         self.solver.push()
         self.solver.add(*terms)
         answer, solver = self.solver.check(), self.solver
+        if answer == z3.unknown and self.alone(terms).check() == z3.unsat:  # whatever holds on the way
+            answer = z3.unsat
         if answer == z3.unknown:  # of a solver that isn't asked step by step, which is often quicker
-            solver = z3.SolverFor('QF_UFBV')
-            solver.set('rlimit', EFFORT)
-            solver.add(*self.solver.assertions())
+            solver = self.alone(self.solver.assertions())
             answer = solver.check()
         example = solver.model() if answer == z3.sat else None
         self.solver.pop()
         return answer != z3.unsat and Answer(example)
+
+    @staticmethod
+    def alone(terms):
+        """A solver that is asked whether all of some terms may hold."""
+        solver = z3.SolverFor('QF_UFBV')
+        solver.set('rlimit', EFFORT)
+        solver.add(*terms)
+        return solver
 
     def one_way(self, end, what, way):
         divisors = [simple(divisor != 0) for divisor in way.divisors]

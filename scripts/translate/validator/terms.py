@@ -6,6 +6,8 @@ the last cut, and a byte that is read after k of them is an unknown function of 
 do the same events, in the same order and with the same words, have the same memory after each, and read the same
 bytes of it. Divisions, and sums of sixteen bytes, are unknown functions too: both sides have the same of them, or
 are refused."""
+import operator
+
 import z3
 
 POINTER = [64]  # the bits of an address: 64, or 32, of which one takes 8 bytes of memory all the same
@@ -47,6 +49,23 @@ def widened_signed(term, width):
 
 def of_truth(condition, width):
     return chosen(simple(condition), number(1, width), number(0, width))
+
+
+def condition_of(term):
+    """The condition that `of_truth` made the number of, if it did."""
+    if not z3.is_app_of(term, z3.Z3_OP_ITE):
+        return None
+    condition, *values = term.children()
+    values = [value.as_long() if z3.is_bv_value(value) else None for value in values]
+    return condition if values == [1, 0] else z3.Not(condition) if values == [0, 1] else None
+
+
+def joined(sign, a, b):
+    """`&`, `|` or `^` of two numbers; of the numbers of two conditions it is that of a condition, as LLVM has it."""
+    conditions = [condition_of(one) for one in (a, b)]
+    if any(one is None for one in conditions):
+        return simple({'&': operator.and_, '|': operator.or_, '^': operator.xor}[sign](a, b))
+    return of_truth({'&': z3.And, '|': z3.Or, '^': z3.Xor}[sign](*conditions), a.size())
 
 
 def used_bits(term):

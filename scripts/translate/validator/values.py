@@ -11,8 +11,8 @@ from pycparser import c_ast
 
 from .c import Steps, constant_of, type_of
 from .llvm import HAS_VECTORS, address_of_data, any_part, in_c, symbol
-from .terms import (INTRINSICS, POINTER, Refused, chosen, compared, intrinsic, lanes_added, moved, number, of_truth,
-                    resized, simple, sum_of_lanes, sum_of_words, used_bits, widened_signed)
+from .terms import (INTRINSICS, POINTER, Refused, chosen, compared, intrinsic, joined, lanes_added, moved, number,
+                    of_truth, resized, simple, sum_of_lanes, sum_of_words, used_bits, widened_signed)
 
 SAME = {'unsigned char': 'u8', 'uint8_t': 'u8', 'uint16_t': 'u16', 'unsigned': 'u32', 'unsigned int': 'u32',
         'uint32_t': 'u32', 'zacpi_status': 'u32', 'uint64_t': 'u64', 'zacpi_number': 'u64', 's32': 'int'}
@@ -270,8 +270,7 @@ class C:
         if node.op in ('/', '%'):
             return self.division(way, node.op, a, b)
         if node.op in ('&', '|', '^'):
-            made = {'&': lambda: a.term & b.term, '|': lambda: a.term | b.term, '^': lambda: a.term ^ b.term}[node.op]()
-            return Value(a.kind, simple(made))
+            return Value(a.kind, joined(node.op, a.term, b.term))
         if node.op not in ('+', '-', '*'):
             refuse(node.op)
         return self.sum(way, node.op, a, b)
