@@ -9,7 +9,7 @@ import shutil
 MODULES = {'acpi_cli': 'cli', 'acpi_image_reader': 'image_reader', 'acpi_image': 'image', 'acpi_view_lib': 'view',
            'acpi_pack_lib': 'pack', 'acpi_dump_walk': 'walk', 'acpi_dump_code': 'code', 'acpi_dump_input': 'input',
            'acpi_dump_check': 'check', 'acpi_dump_compare': 'compare', 'acpi_dump_page': 'page',
-           'acpi_dump_lib': 'dump'}
+           'acpi_dump_summary': 'summary', 'acpi_dump_lib': 'dump'}
 PROGRAMS = ['acpi_dump', 'acpi_view', 'acpi_pack']
 # What the package's root looks at, in the crate whose own it is.
 # Where acpi_dump looks whether a fleet is requested, which is plain Rust (src/fleet).

@@ -12,6 +12,7 @@ pub mod image_reader;
 pub mod input;
 pub mod pack;
 pub mod page;
+pub mod summary;
 pub mod view;
 pub mod walk;
 

@@ -1,10 +1,9 @@
 //! guest FILE: writes the ACPI tables of a guest into a file, as a hypervisor writes them into the guest's memory from
 //! 0x7000000 on, where the RSDP lies, and reads them back: four processors and 4 GiB in two domains, an I/O APIC, PCI,
-//! an HPET, a console and reduced hardware.
+//! a console and reduced hardware, with no legacy timers.
 use std::error::Error;
 use zacpi::address::{AccessSize, AddressSpace, GenericAddress};
 use zacpi::handler::MappedRegion;
-use zacpi::hpet::PageProtection;
 use zacpi::mcfg::McfgEntry;
 use zacpi::numa::MemoryRange;
 use zacpi::platform::interrupt::IoApic;
@@ -14,7 +13,7 @@ use zacpi::write::{
     AmlContents, ApicDomain, FadtContents, FadtHardware, Machine, MadtContents, MadtProcessor, SlitContents,
     SpcrContents, SratContents, TableContents, TableIds, dsdt_address, tables_size, write_tables,
 };
-use zacpi::{AcpiTables, HpetInfo, PowerProfile, madt::Madt, madt::MadtEntry};
+use zacpi::{AcpiTables, PowerProfile, madt::Madt, madt::MadtEntry};
 
 pub const TABLES: u64 = 0x700_0000;
 const HALF: u64 = 2 << 30;
@@ -80,13 +79,6 @@ pub fn guest() -> Result<Vec<u8>, Box<dyn Error>> {
         wakeup_mailbox: None,
     };
     let pci = McfgEntry { base_address: 0xb000_0000, pci_segment_group: 0, bus_number_start: 0, bus_number_end: 255 };
-    let hpet = HpetInfo {
-        event_timer_block_id: 0x8086_a201,
-        base_address: 0xfed0_0000,
-        hpet_number: 0,
-        clock_tick_unit: 100,
-        page_protection: PageProtection::None,
-    };
     let ranges = [0, 1].map(|domain| MemoryRange {
         domain,
         base: u64::from(domain) * HALF,
@@ -96,10 +88,9 @@ pub fn guest() -> Result<Vec<u8>, Box<dyn Error>> {
     });
     let apics = [0, 1, 2, 3].map(|id| ApicDomain { local_apic_id: id, domain: id / 2 });
     let tables = [
-        TableContents::Fadt(reduced(dsdt_address(TABLES, 7).ok_or("the tables' address")?)),
+        TableContents::Fadt(reduced(dsdt_address(TABLES, 6).ok_or("the tables' address")?)),
         TableContents::Madt(madt),
         TableContents::Mcfg(&[pci]),
-        TableContents::Hpet(hpet),
         TableContents::Spcr(console(0x3f8, 4, 115_200)),
         TableContents::Srat(SratContents { apics: &apics, giccs: &[], ranges: &ranges }),
         TableContents::Slit(SlitContents { localities: 2, distances: &[10, 20, 20, 10] }),

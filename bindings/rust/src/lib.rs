@@ -12,21 +12,27 @@ extern crate std;
 mod acpi;
 pub mod arm;
 pub mod base;
+mod bytes;
+mod c_devices;
+mod c_interrupts;
+mod c_lib;
+mod c_machine;
 #[cfg(feature = "c")]
 mod exports;
 mod fixed;
 pub mod iommu;
-pub mod lists;
 pub mod numa;
 pub mod riscv;
 pub mod sleep;
 mod sums;
+mod table_writer;
 pub mod write;
 
 // What is beside them.
 pub mod alloc;
 mod errors;
 pub mod flags;
+pub mod lists;
 mod mapper;
 mod memory;
 mod of_tables;

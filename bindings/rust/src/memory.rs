@@ -1,8 +1,9 @@
 //! The memory that is mapped, for the calls without a heap and for tables beside them.
 
+use crate::c_lib::regions::Mapped;
+use crate::lists::clip;
 use crate::lists::records::{Range, Source};
 use crate::lists::refusal::Refusal;
-use crate::lists::{clip, regions::Mapped};
 use crate::{AcpiHandler, AcpiResult};
 
 /// The memory of a [`Source`]'s regions.

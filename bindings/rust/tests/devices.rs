@@ -5,7 +5,7 @@ use common::{Field, Memory, TABLE, all, filled, generic, plain, plains, with};
 use zacpi::address::{AccessSize, AddressSpace, GenericAddress};
 use zacpi::alloc::Global;
 use zacpi::bgrt::{Bgrt, ImageType};
-use zacpi::hpet::HpetTable;
+use zacpi::hpet::{HpetTable, PageProtection};
 use zacpi::lists::fixed_records::EcamRange;
 use zacpi::lists::records::{self, PciRegion};
 use zacpi::lists::{console, devices, pci, refusal::Refusal};
@@ -22,7 +22,9 @@ fn reads_an_hpet() {
     fields.extend(generic(40, 0, 64, 0, 0, 0xfed0_0000));
     with("HPET", 1, 56, &fields).ask(|tables| {
         let hpet = HpetInfo::new(tables).unwrap();
-        assert_eq!(plain(hpet), "HpetInfo 8086a201 fed00000 1 80 Protected64K");
+        assert_eq!((hpet.event_timer_block_id, hpet.base_address), (0x8086_a201, 0xfed0_0000));
+        assert_eq!((hpet.hpet_number, hpet.clock_tick_unit), (1, 0x80));
+        assert_eq!(hpet.page_protection, PageProtection::Protected64K);
         assert_eq!((hpet.hardware_rev(), hpet.num_comparators(), hpet.pci_vendor_id()), (1, 3, 0x8086));
         assert_eq!((hpet.main_counter_is_64bits(), hpet.legacy_irq_capable()), (true, true));
         assert_eq!(tables.find_table::<HpetTable>().ok().unwrap().region_length(), 56);
@@ -31,7 +33,7 @@ fn reads_an_hpet() {
     fields.extend(generic(40, 0, 64, 0, 0, 0xfed0_0000));
     with("HPET", 1, 56, &fields).ask(|tables| {
         let hpet = HpetInfo::new(tables).unwrap();
-        assert_eq!(plain(hpet), "HpetInfo 80860001 fed00000 0 0 Other");
+        assert_eq!((hpet.event_timer_block_id, hpet.page_protection), (0x8086_0001, PageProtection::Other));
         let capable = (hpet.main_counter_is_64bits(), hpet.legacy_irq_capable());
         assert_eq!((hpet.num_comparators(), capable), (1, (false, false)));
     });
@@ -52,8 +54,10 @@ fn lists_blocks_of_timers() {
     }
     memory.list(|source| {
         let found: Vec<records::HpetInfo> = all(|out| devices::hpets(source, out)).unwrap();
-        let expected = ["HpetInfo fed00000 8086a201 80 0 0", "HpetInfo fed02000 8086a201 82 4 2"];
-        assert_eq!(plains(&found), expected);
+        let places: Vec<_> = found.iter().map(|block| (block.base_address, block.event_timer_block_id)).collect();
+        assert_eq!(places, [(0xfed0_0000, 0x8086_a201), (0xfed0_2000, 0x8086_a201)]);
+        let rest: Vec<_> = found.iter().map(|it| (it.clock_tick_unit, it.number, it.page_protection)).collect();
+        assert_eq!(rest, [(0x80, 0, 0), (0x82, 4, 2)]);
         assert_eq!(devices::hpet(source), Ok(found[0]));
         assert_eq!(filled(1, |out| devices::hpets(source, out)), Ok((vec![found[0]], 2)));
     });

@@ -1,8 +1,8 @@
-//! Opening, lookups, lists, bytes, entries, ranges and regions.
+//! Opening, lookups, lists, bytes, entries and ranges.
 mod common;
 use common::{Memory, ROOT, TABLE, Tables, all, filled, plain, plains, with};
 use zacpi::fadt::Fadt;
-use zacpi::handler::{MappedRegion, MappedRegions, RegionError};
+use zacpi::handler::{MappedRegion, MappedRegions};
 use zacpi::lists::records::{Entry, Fault, Member, Range, Root, Source, Table, Walk};
 use zacpi::lists::regions::{Region, locate};
 use zacpi::lists::{copied, entries, facs, faults, members, opening, refusal::Refusal, rsdp, tables as lookups, walks};
@@ -374,47 +374,4 @@ fn walks_entries() {
     assert_eq!(walked(&memory, TABLE, walk(36, 4)), Ok((vec![(36, 0x1_0002, 12), (48, u32::MAX, 8)], true)));
     // A Length of 1 is too short.
     assert_eq!(walked(&memory, TABLE, walk(52, 4)), Ok((vec![], true)));
-}
-
-#[test]
-fn a_region_is_memory() {
-    let bytes = [1, 2, 3];
-    let region = |start| MappedRegion::new(start, &bytes);
-    assert_eq!((region(u64::MAX - 3).is_ok(), region(u64::MAX - 2).err()), (true, Some(RegionError::EndTooLarge)));
-    let regions = |starts: [u64; 2]| MappedRegions::new(&starts.map(|start| region(start).unwrap())).err();
-    assert_eq!(
-        [[5, 8], [5, 7], [5, 4]].map(regions),
-        [None, Some(RegionError::Overlap), Some(RegionError::NotAscending)]
-    );
-    assert_eq!(RegionError::Overlap.to_string(), "Overlap");
-    let two = [region(5).unwrap(), region(8).unwrap()];
-    let memory = MappedRegions::new(&two).unwrap();
-    let map = |address, size| memory.map_physical_region(address, size).map(<[u8]>::to_vec);
-    assert_eq!((map(6, 2), map(8, 1)), (Ok(vec![2, 3]), Ok(vec![1, 2, 3])));
-    // Two regions that adjoin are two.
-    assert_eq!([map(7, 2), map(4, 1), map(11, 1)], [const { Err(AcpiError::MapFailed) }; 3]);
-    let list = |starts: [u64; 2]| locate(&starts.map(|address| Region { address, bytes: &bytes }), 6, 2).map(plain);
-    assert_eq!(list([5, 8]), Ok("Place 0 1".into()));
-    assert_eq!(list([5, 7]), Err(Refusal::RegionsNotAscending));
-    assert_eq!(list([5, u64::MAX - 2]), Err(Refusal::RegionTooHigh));
-    let (whole, high) = (range(2, 3), range(u64::MAX, 1));
-    assert_eq!(
-        ([1, 2, 4, 5].map(|at| whole.holds(at)), whole.fits(), high.fits()),
-        ([false, true, true, false], true, false)
-    );
-}
-
-/// Ranges that overlap, without 256 bytes, inside of a window; and one that ends above 2^64 - 1.
-#[test]
-fn clips_ranges() {
-    let of = |address, length| Range { address, length };
-    let mut ranges = [of(0x3000, 0x1000), of(0x1000, 0x1000), of(0x1800, 0x1000), of(0x9000, 0x1000)];
-    let clipped = all(|out| zacpi::clip_ranges(&mut ranges, &mut [of(0x1400, 0x100)], of(0x1000, 0x8800), out));
-    let expected = [of(0x1000, 0x400), of(0x1500, 0x1300), of(0x3000, 0x1000), of(0x9000, 0x800)];
-    assert_eq!(clipped, Ok(expected.to_vec()));
-    assert_eq!(ranges, [of(0x1000, 0x1000), of(0x2000, 0x800), of(0x3000, 0x1000), of(0x9000, 0x1000)]);
-    let clipped = filled(1, |out| zacpi::clip_ranges(&mut ranges, &mut [], of(0, u64::MAX), out));
-    assert_eq!(clipped, Ok((vec![of(0x1000, 0x1800)], 3)));
-    let high = zacpi::clip_ranges(&mut [of(u64::MAX, 1)], &mut [], of(0, 0), &mut []);
-    assert_eq!(high, Err(Refusal::RangeTooHigh));
 }

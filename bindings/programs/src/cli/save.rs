@@ -80,7 +80,7 @@ fn are_same(one: Option<Identity>, other: Option<Identity>) -> bool {
     }
 }
 
-/// Whether a file is one of those that are packed: by its name, or whatever names they have.
+/// Whether a file is one of the sources: of the same name, or the same file under another name.
 fn is_source(rt: &HostRuntime, name: &str, found: &Found, sources: &[&str]) -> bool {
     let identity = match found {
         Found::File(metadata) => Some(identity_of(metadata)),

@@ -1,11 +1,9 @@
 // Made by scripts/erase of crates/acpi_dump_code/src/known.rt, where it is proved.
 //! What the names of tables stand for: which of them are methods, and with how many arguments.
 
-use crate::code::listing::{Extent, ShowCode, list_code};
+use crate::code::listing::{ShowCode, list_table};
 use crate::rattle::Vec;
 use crate::rattle::alloc::{AllocError, Global};
-use zacpi::PhysicalRecord;
-use zacpi::sdt::SdtHeader;
 
 /// The names that each machine has (sections 5.3.1 and 5.7), of which `_OSI` is a method of one argument.
 const PREDEFINED: [(&str, Option<u8>); 9] = [
@@ -112,15 +110,14 @@ fn next_paths(alloc: Global, tables: &[&[u8]], paths: &Paths) -> Result<Paths, A
     let mut next = Paths::new(alloc);
     let known = Known::new(alloc, paths)?;
     for table in tables {
-        let extent = Extent::of(*table, SdtHeader::MIN_LENGTH, table.len());
-        list_code(alloc, &known, extent, &[], &mut next)?;
+        list_table(alloc, &known, *table, &mut next)?;
     }
     Ok(next)
 }
 
 /// The names that tables define, each the bytes of a DSDT, an SSDT or a PSDT.
 ///
-/// Fails if memory runs out.
+/// If memory runs out, this fails, or `Known::new` with what it returns.
 pub fn paths_of(alloc: Global, tables: &[&[u8]]) -> Result<Paths, AllocError> {
     let mut paths = Paths::new(alloc);
     if tables.is_empty() {

@@ -10,6 +10,8 @@ use crate::rattle::Vec;
 use crate::rattle::alloc::{AllocError, Global};
 use crate::walk::aml::Ends;
 use crate::walk::out::Out;
+use zacpi::PhysicalRecord;
+use zacpi::sdt::SdtHeader;
 
 /// The terms that are listed: a table, and between which of its offsets they are.
 #[derive(Clone, Copy)]
@@ -38,6 +40,14 @@ pub trait ShowCode {
     /// Shows that the path of these segments is defined, or by an External that another table defines it: a method with
     /// a number of arguments, or without it another object.
     fn define(&mut self, _path: &[u8], _is_elsewhere: bool, _arguments: Option<u8>) {}
+}
+
+/// Lists the terms of a table, which is a DSDT, an SSDT or a PSDT, after its header.
+///
+/// Fails if memory runs out.
+pub fn list_table<S: ShowCode>(alloc: Global, known: &Known<'_>, table: &[u8], show: &mut S) -> Result<(), AllocError> {
+    let extent = Extent::of(table, SdtHeader::MIN_LENGTH, table.len());
+    list_code(alloc, known, extent, &[], show)
 }
 
 /// Lists the terms of a table, which are in the scope with the path of these segments.

@@ -22,4 +22,4 @@ pub mod text;
 mod why;
 
 pub use known::{Known, Paths, paths_of};
-pub use listing::{Extent, ShowCode, list_code};
+pub use listing::{Extent, ShowCode, list_code, list_table};

@@ -2,7 +2,7 @@
 //! Parts of operations as text: constants, names, numbers, and the units of fields.
 
 use crate::rattle::Pieces;
-use crate::walk::aml::value::name_in;
+use crate::walk::aml::constant::name_in;
 use crate::walk::fields::{number_of, print_hex, print_segments};
 use crate::walk::out::Out;
 use zacpi::sleep::AmlError;

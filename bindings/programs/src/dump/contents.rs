@@ -1,9 +1,9 @@
 // Made by scripts/erase of crates/acpi_dump_lib/src/contents.rt, where it is proved.
 //! The contents of chosen tables.
 
-use crate::code::Known;
 use crate::code::text::CodeText;
-use crate::dump::code::{is_code, show_code};
+use crate::code::{Known, Paths, list_table};
+use crate::compare::compare::code::names_in;
 use crate::dump::getters::print_getters;
 use crate::dump::options::{Choice, Contents};
 use crate::dump::paint::Paint;
@@ -13,6 +13,7 @@ use crate::input::errors::{Log, fail};
 use crate::input::status::Status;
 use crate::rattle::Vec;
 use crate::rattle::alloc::{AllocError, Global};
+use crate::summary::document::{Document, Part, add_table};
 use crate::walk::hex::print_dump;
 use crate::walk::out::Out;
 use crate::walk::text::Text;
@@ -29,7 +30,7 @@ fn chooses(choice: Choice, entry: &Entry<'_>) -> bool {
 }
 
 /// Whether a table is shown by a choice: no choice before it shows the table in the same form.
-pub(crate) fn shows(choices: &[Choice], number: usize, entry: &Entry<'_>) -> bool {
+fn shows(choices: &[Choice], number: usize, entry: &Entry<'_>) -> bool {
     let Some(choice) = choices.get(number) else {
         return false;
     };
@@ -55,6 +56,34 @@ pub(crate) fn chosen_of<'l>(
         chosen.push(*entry)?;
     }
     Ok(chosen)
+}
+
+/// The names that tables define, if the operations of some are listed, and else none.
+///
+/// If memory runs out, this fails, or `Known::new` with what it returns.
+pub(crate) fn names_for(alloc: Global, entries: &[Entry<'_>], choices: &[Choice]) -> Result<Paths, AllocError> {
+    let lists_code = choices.iter().any(|choice| choice.contents == Contents::Code);
+    if !lists_code {
+        return names_in(alloc, &[]);
+    }
+    names_in(alloc, entries)
+}
+
+/// Adds the tables that are chosen to a document, choice by choice.
+pub(crate) fn add_tables(document: &mut Document<'_>, entries: &[Entry<'_>], choices: &[Choice], known: &Known<'_>) {
+    for (number, choice) in choices.iter().enumerate() {
+        for entry in entries {
+            if shows(choices, number, entry) {
+                let part = match choice.contents {
+                    Contents::Code if entry.has_aml() => Part::Code(&*known),
+                    Contents::Code | Contents::Fields => Part::Fields,
+                    Contents::Bytes => Part::Bytes,
+                    Contents::Dumped => Part::Nothing,
+                };
+                add_table(document, entry, part);
+            }
+        }
+    }
 }
 
 /// Prints the tables that are chosen, choice by choice.
@@ -93,9 +122,9 @@ fn print_table(entry: &Entry<'_>, contents: Contents, known: &Known<'_>, paint: 
     }
     match contents {
         Contents::Bytes => print_dump(entry.bytes, out),
-        Contents::Code if is_code(entry) => {
-            let alloc = out.allocator();
-            if show_code(alloc, known, entry, &mut CodeText { out: &mut *out }).is_err() {
+        Contents::Code if entry.has_aml() => {
+            let (alloc, table) = (out.allocator(), entry.bytes);
+            if list_table(alloc, known, table, &mut CodeText { out: &mut *out }).is_err() {
                 out.refuse();
             }
         }

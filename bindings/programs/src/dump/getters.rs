@@ -23,7 +23,7 @@ pub(crate) fn print_getters(table: &[u8], out: &mut Out) {
     print_block("sleep status register", fadt.sleep_status_register(), out);
 }
 
-/// Prints the blocks of fixed hardware, which a machine of reduced hardware hasn't got (section 4.1).
+/// Prints the blocks of fixed hardware, which a machine of reduced hardware lacks (section 4.1).
 fn print_fixed(fadt: &Fadt, out: &mut Out) {
     print_block("PM1a event block", fadt.pm1a_event_block().map(Some), out);
     print_block("PM1b event block", fadt.pm1b_event_block(), out);

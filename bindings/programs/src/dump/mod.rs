@@ -12,9 +12,7 @@
 
 mod accepted;
 mod arguments;
-mod code;
 mod contents;
-mod document;
 mod getters;
 mod listing;
 pub(crate) mod options;
@@ -22,7 +20,6 @@ mod paint;
 pub mod parser;
 mod rules;
 pub mod run;
-mod summary;
 mod values;
 mod views;
 mod wanted;

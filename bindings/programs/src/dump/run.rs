@@ -43,9 +43,9 @@ pub fn dump<P: Parser, S: Sources, T: Storage, W: Write, E: Write>(
     if let Err(refusal) = &shown {
         tell(&mut log, "standard output", &reason_of(refusal));
     }
-    let told = log.text.write_to(err);
+    let logged = log.text.write_to(err);
     let status = status_of_run(status, log.is_incomplete)?;
-    shown.and(told)?;
+    shown.and(logged)?;
     Ok(status)
 }
 

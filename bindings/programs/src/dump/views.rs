@@ -13,12 +13,10 @@ mod sarif;
 mod single;
 
 use crate::cli::storage::Storage;
-use crate::code::{Known, paths_of};
+use crate::code::Known;
 use crate::dump::accepted::Accepted;
 use crate::dump::arguments::{Request, View};
-use crate::dump::code::code_of;
-use crate::dump::contents::{chosen_of, print_tables, tell_missing};
-use crate::dump::document::{Document, add_all, add_chosen};
+use crate::dump::contents::{add_tables, chosen_of, names_for, print_tables, tell_missing};
 use crate::dump::listing::print_lines;
 use crate::dump::paint::Paint;
 use crate::input::entries::Entry;
@@ -27,6 +25,7 @@ use crate::input::extract::{Saving, save_tables};
 use crate::input::gather::Input;
 use crate::input::sources::Sources;
 use crate::rattle::alloc::Global;
+use crate::summary::document::{Document, Part, add_table};
 use crate::walk::out::Out;
 pub(crate) use compared::print_compared;
 use found::print_found;
@@ -126,16 +125,17 @@ pub(crate) fn save_input<S: Sources, T: Storage>(
 fn print_entries(output: Output<'_>, entries: &[Entry<'_>], out: &mut Out, log: &mut Log) -> Result<u8, Stop> {
     let choices = output.request.choices.as_slice();
     let is_chosen = matches!(output.request.view, View::Tables);
-    let code = &code_of(output.alloc, entries, choices)?;
-    let paths = &paths_of(output.alloc, code)?;
+    let paths = &names_for(output.alloc, entries, choices)?;
     let known = &Known::new(output.alloc, paths)?;
     if output.request.is_json {
         let mut document = output.document("tables");
         let view = if is_chosen {
-            add_chosen(&mut document, entries, choices, known);
+            add_tables(&mut document, entries, choices, known);
             "contents"
         } else {
-            add_all(&mut document, entries);
+            for entry in entries {
+                add_table(&mut document, entry, Part::Nothing);
+            }
             "tables"
         };
         document.print(view, out)?;

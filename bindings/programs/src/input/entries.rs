@@ -9,6 +9,7 @@ use crate::input::tables::TableFile;
 use crate::rattle::alloc::{AllocError, Global};
 use crate::rattle::{Vec, vec};
 use crate::walk::out::Out;
+use crate::walk::walk::has_aml;
 use zacpi::base::bytes::byte_sum;
 use zacpi::bgrt::Bgrt;
 use zacpi::fadt::Fadt;
@@ -60,6 +61,12 @@ impl<'a> Entry<'a> {
     /// The signature that it begins with, if it has four bytes.
     pub fn signature(&self) -> Option<Signature> {
         signature_of(self.bytes)
+    }
+
+    /// Whether it contains AML, by the signature that it begins with: also if a check of it fails, or if it should have
+    /// another signature.
+    pub fn has_aml(&self) -> bool {
+        has_aml(own_signature(self.bytes)) && self.bytes.len() >= SdtHeader::MIN_LENGTH
     }
 
     /// Whether it has a signature, or should have it, in either case.
@@ -273,7 +280,12 @@ pub fn entry_at<'i>(alloc: Global, image: &MemoryImage<'i>, address: u64, sought
 }
 
 /// The table that a FADT leads to, or its refusal to say where.
-fn entry_led<'i>(alloc: Global, image: &MemoryImage<'i>, address: AcpiResult<u64>, signature: Signature) -> Entry<'i> {
+fn entry_pointed_to<'i>(
+    alloc: Global,
+    image: &MemoryImage<'i>,
+    address: AcpiResult<u64>,
+    signature: Signature,
+) -> Entry<'i> {
     match address {
         Ok(address) => entry_at(alloc, image, address, Some(signature)),
         Err(refusal) => {
@@ -284,7 +296,7 @@ fn entry_led<'i>(alloc: Global, image: &MemoryImage<'i>, address: AcpiResult<u64
 
 /// The tables that a valid FADT leads to, if one is listed: the DSDT and the FACS, each by its address and signature. A
 /// machine of reduced hardware needn't have a FACS: both fields of its address are 0 then (section 5.2.9).
-fn led_by_fadt(tables: &AcpiTables<'_, MemoryImage<'_>>) -> [Option<(AcpiResult<u64>, Signature)>; 2] {
+fn fadt_pointers(tables: &AcpiTables<'_, MemoryImage<'_>>) -> [Option<(AcpiResult<u64>, Signature)>; 2] {
     let Ok(fadt) = &tables.find_table::<Fadt>() else {
         return [None, None];
     };
@@ -309,11 +321,11 @@ pub fn entries_of<'i>(
     for address in tables.addresses() {
         entries.push(entry_at(alloc, image, address, None))?;
     }
-    for led in &led_by_fadt(tables) {
-        let Some((address, signature)) = *led else {
+    for pointer in &fadt_pointers(tables) {
+        let Some((address, signature)) = *pointer else {
             continue;
         };
-        entries.push(entry_led(alloc, image, address, signature))?;
+        entries.push(entry_pointed_to(alloc, image, address, signature))?;
     }
     Ok(entries)
 }

@@ -80,7 +80,7 @@ impl<S: Sources> Reader<'_, S> {
                 continue;
             }
             let listing = self.sources.names_in(self.alloc, path.as_str());
-            for name in &self.told(path.as_str(), listing)?.names {
+            for name in &self.or_report(path.as_str(), listing)?.names {
                 let within = path_in(self.alloc, *inner, name.as_str())?;
                 names.push(within).map_err(AllocError::from)?;
             }
@@ -93,7 +93,7 @@ impl<S: Sources> Reader<'_, S> {
     /// Fails, after printing why, if there are none.
     pub(crate) fn add_folder(&mut self, folder: &str) -> Result<(), Stop> {
         let listing = self.sources.names_in(self.alloc, folder);
-        let Listing { mut names, unnamed } = self.told(folder, listing)?;
+        let Listing { mut names, unnamed } = self.or_report(folder, listing)?;
         self.push_inner(folder, &mut names)?;
         if unnamed > 0 {
             let what = format_args!("names that are not UTF-8, not shown: {unnamed}");

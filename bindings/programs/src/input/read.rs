@@ -46,7 +46,7 @@ impl<S: Sources> Reader<'_, S> {
     /// What the system returns for a name.
     ///
     /// Fails, after printing why, if that is an error.
-    pub(crate) fn told<T>(&mut self, name: &str, given: io::Result<T>) -> Result<T, Stop> {
+    pub(crate) fn or_report<T>(&mut self, name: &str, given: io::Result<T>) -> Result<T, Stop> {
         match given {
             Ok(value) => Ok(value),
             Err(refusal) => Err(fail(self.log, name, &reason_of(&refusal))),
@@ -59,7 +59,7 @@ impl<S: Sources> Reader<'_, S> {
             return Ok(false);
         }
         let kind = self.sources.kind_of(name);
-        Ok(self.told(name, kind)? == sources::Kind::Folder)
+        Ok(self.or_report(name, kind)? == sources::Kind::Folder)
     }
 
     /// The bytes of an input, which is standard input if its name is `-`.
@@ -70,7 +70,7 @@ impl<S: Sources> Reader<'_, S> {
         } else {
             self.sources.read(alloc, name, most)
         };
-        self.told(name, content)
+        self.or_report(name, content)
     }
 
     /// The kind of an input, and its bytes: a text in UTF-16 as one in ASCII.

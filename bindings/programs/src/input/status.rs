@@ -42,7 +42,7 @@ impl fmt::Display for Status {
     fn fmt(&self, f: &mut fmt::Formatter<'_>) -> fmt::Result {
         match self {
             Status::Valid => f.write_str("ok"),
-            Status::NoLookup(refusal) => write!(f, "ok, but its lookup answers {refusal}"),
+            Status::NoLookup(refusal) => write!(f, "ok, but its lookup fails with {refusal}"),
             Status::Refused(refusal) => write!(f, "{refusal}"),
             Status::WrongSum { signature, is, should } => {
                 write!(f, "SdtInvalidChecksum {signature}: checksum is {is:02x}, should be {should:02x}")

@@ -37,11 +37,11 @@ impl From<AllocError> for TextError {
 /// The tables of the lines that were read.
 pub struct Reading {
     /// Those that are whole.
-    whole: Vec<SpelledTable>,
+    complete: Vec<SpelledTable>,
     /// The one whose rows are read.
     current: Option<SpelledTable>,
     /// How many bytes the text says that it has.
-    said: Option<u64>,
+    stated_length: Option<u64>,
 }
 
 /// The first line of a text without its line feed, and what comes after that.
@@ -82,21 +82,21 @@ fn length_in(line: &str) -> Option<u64> {
 impl Reading {
     /// No table.
     fn none(alloc: Global) -> Reading {
-        Reading { whole: Vec::new(alloc), current: None, said: None }
+        Reading { complete: Vec::new(alloc), current: None, stated_length: None }
     }
 
     /// All tables, of which the one whose rows were read is the last.
     fn all(self) -> Result<Vec<SpelledTable>, AllocError> {
-        let Reading { mut whole, current, .. } = self;
+        let Reading { mut complete, current, .. } = self;
         if let Some(table) = current {
-            whole.push(table)?;
+            complete.push(table)?;
         }
-        Ok(whole)
+        Ok(complete)
     }
 
     /// These tables, all of them whole.
     fn closed(self) -> Result<Reading, AllocError> {
-        Ok(Reading { whole: self.all()?, current: None, said: None })
+        Ok(Reading { complete: self.all()?, current: None, stated_length: None })
     }
 
     /// How many bytes the table has so far whose rows are read.
@@ -109,14 +109,14 @@ impl Reading {
 
     /// These tables, and one more of which no row was read.
     fn opened(self, alloc: Global, address: u64) -> Result<Reading, AllocError> {
-        let whole = self.all()?;
+        let complete = self.all()?;
         let table = SpelledTable { address, bytes: Vec::new(alloc) };
-        Ok(Reading { whole, current: Some(table), said: None })
+        Ok(Reading { complete, current: Some(table), stated_length: None })
     }
 
     /// These tables with one more row, or `None` if it is wrong.
     fn with_row(self, row: Row<'_>) -> Result<Option<Reading>, AllocError> {
-        let Reading { whole, current, said } = self;
+        let Reading { complete, current, stated_length } = self;
         let Some(table) = current else {
             return Ok(None);
         };
@@ -127,31 +127,31 @@ impl Reading {
         if !push_pairs(&mut bytes, row.pairs)? {
             return Ok(None);
         }
-        Ok(Some(Reading { whole, current: Some(SpelledTable { address, bytes }), said }))
+        Ok(Some(Reading { complete, current: Some(SpelledTable { address, bytes }), stated_length }))
     }
 
     /// These tables after a blank line, or `None` if it is wrong: if the table that it would end has more or fewer
     /// bytes than it is said to have. It ends none that is said to have some before the first of them.
     fn with_blank(self) -> Result<Option<Reading>, AllocError> {
-        let (Some(held), Some(said)) = (self.held(), self.said) else {
+        let (Some(held), Some(stated_length)) = (self.held(), self.stated_length) else {
             return Ok(Some(self.closed()?));
         };
-        if said == held {
+        if stated_length == held {
             return Ok(Some(self.closed()?));
         }
         Ok(if held == 0 { Some(self) } else { None })
     }
 
     /// These tables after a line that says how many bytes the current one has, or `None` if that has rows by now.
-    fn with_length(self, said: u64) -> Option<Reading> {
+    fn with_length(self, stated_length: u64) -> Option<Reading> {
         let Some(held) = self.held() else {
             return Some(self);
         };
         if held > 0 {
             return None;
         }
-        let Reading { whole, current, .. } = self;
-        Some(Reading { whole, current, said: Some(said) })
+        let Reading { complete, current, .. } = self;
+        Some(Reading { complete, current, stated_length: Some(stated_length) })
     }
 
     /// These tables with one more line, or `None` if it is wrong.
@@ -165,8 +165,8 @@ impl Reading {
         if line.trim().is_empty() {
             return self.with_blank();
         }
-        if let Some(said) = length_in(line) {
-            return Ok(self.with_length(said));
+        if let Some(stated_length) = length_in(line) {
+            return Ok(self.with_length(stated_length));
         }
         if self.current.is_some() {
             return Ok(None);

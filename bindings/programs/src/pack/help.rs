@@ -15,7 +15,7 @@ const HELP: &str =
 const VERSION: &str = "acpi_pack 1.0.0\n";
 
 /// The text that an argument requests, or `None` if it requests none.
-fn told_to(argument: &str) -> Option<&'static str> {
+fn text_of_argument(argument: &str) -> Option<&'static str> {
     match argument {
         "--help" => Some(HELP),
         "--version" => Some(VERSION),
@@ -25,9 +25,9 @@ fn told_to(argument: &str) -> Option<&'static str> {
 
 /// The text that arguments request, or `None` if they request none: how the program is called for `--help`
 /// alone, and its version for `--version` alone.
-pub(crate) fn told(arguments: &[&str]) -> Option<&'static str> {
+pub(crate) fn help_or_version(arguments: &[&str]) -> Option<&'static str> {
     match arguments {
-        [argument] => told_to(argument),
+        [argument] => text_of_argument(argument),
         _ => None,
     }
 }

@@ -4,7 +4,7 @@
 use crate::cli::storage::Storage;
 use crate::pack::arguments::parse_command;
 use crate::pack::files::{Files, count};
-use crate::pack::help::{USAGE, told};
+use crate::pack::help::{USAGE, help_or_version};
 use crate::pack::outcome::{Outcome, outcome_of};
 use crate::pack::reading::{contents_from, read_all};
 use crate::rattle::String;
@@ -17,7 +17,7 @@ use crate::rattle::io::Write;
 ///
 /// Fails if memory for anything but the image itself runs out, and requests no other file then.
 fn outcome_for<'w, F: Files>(alloc: Global, arguments: &[&'w str], files: &mut F) -> Result<Outcome<'w>, AllocError> {
-    if let Some(text) = told(arguments) {
+    if let Some(text) = help_or_version(arguments) {
         return Ok(Outcome::Shown(text));
     }
     let Some(command) = parse_command(alloc, arguments)? else {

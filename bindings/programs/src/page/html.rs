@@ -92,8 +92,8 @@ struct Outlined<'p> {
     names: &'p Names<'p>,
 }
 
-/// Adds the tables of an input as a page shows them beside those of the other one, if it is the first of two only those
-/// that the other one hasn't got.
+/// Adds the sheets of an input's tables, compared with those of the other input. Of the first of two inputs only tables
+/// that the other one lacks are added.
 fn add_sheets<'p>(
     source: Source<'p>,
     own: Outlined<'p>,
@@ -118,7 +118,7 @@ fn add_sheets<'p>(
     Ok(())
 }
 
-/// The table of this number of an input, as a page shows it if the other one hasn't got it.
+/// The sheet of the table of this number of an input, without a comparison.
 fn sheet_of<'p>(
     source: Source<'p>,
     names: &'p Names<'p>,

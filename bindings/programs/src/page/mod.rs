@@ -1,7 +1,8 @@
 // Made by scripts/erase of crates/acpi_dump_page/src/lib.rt, where it is proved.
 //! A page of an input's tables, or of what differs between two inputs.
 //!
-//! Every function returns for every input, without fault. What a page has is tested, and not proved.
+//! Every function returns for every input, without fault. What `print_escaped` prints is proved to be text, without
+//! markup; what else a page contains is tested, and not proved.
 
 #![forbid(unsafe_code)]
 // What contracts alone use.

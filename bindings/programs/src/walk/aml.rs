@@ -1,6 +1,7 @@
 // Made by scripts/erase of crates/acpi_dump_walk/src/aml.rt, where it is proved.
 //! The named objects of AML, in the order of the bytes (ACPI 6.4, section 20.2.5). AML is not run.
 
+pub mod constant;
 pub mod parts;
 pub mod resources;
 pub mod units;

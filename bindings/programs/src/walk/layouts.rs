@@ -11,6 +11,7 @@ mod localities;
 mod management;
 mod memory;
 mod processors;
+mod processors_arm_riscv;
 mod remapping;
 mod roots;
 mod sharing;
@@ -38,7 +39,7 @@ fn texts() -> [&'static str; 21] {
         memory::NFIT,
         trust::TRUST,
         processors::PROCESSORS,
-        processors::MACHINES,
+        processors_arm_riscv::MACHINES,
         management::MANAGEMENT,
         remapping::REMAPPING,
         remapping::NETWORK,
@@ -67,6 +68,10 @@ pub fn title_of(signature: Signature) -> &'static str {
 pub(crate) fn layout_of(signature: Signature) -> (Blocks, Block) {
     let name = signature.as_str().unwrap_or("").trim_ascii_end();
     for text in &texts() {
+        // Reading a text takes far longer than looking for a name in it.
+        if !text.contains(name) {
+            continue;
+        }
         let blocks = Blocks::read(*text);
         if let Some(block) = blocks.find(name, None) {
             return (blocks, block);

@@ -27,7 +27,7 @@ impl Out {
         }
     }
 
-    /// Prints what another one has, which is no whole either if that isn't.
+    /// Prints what another output has. If memory was refused to that one, it counts as refused here too.
     pub fn append(&mut self, other: &Out) {
         self.is_refused |= other.is_refused;
         self.bytes(&other.bytes);

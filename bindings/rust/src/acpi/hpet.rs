@@ -1,10 +1,13 @@
 // Made by scripts/erase of crates/acpi/src/hpet.rt, where it is proved.
 //! The IA-PC High Precision Event Timer Table (HPET).
 
+mod readings;
+
 use crate::acpi::tables::AcpiTables;
-use crate::base::bytes::{bits, field_in, has_bit, u8_in, u16_in, u32_in};
+use crate::base::bytes::{bits, has_bit};
 use crate::base::sdt::SdtHeader;
 use crate::base::{AcpiError, AcpiResult, Lender, PhysicalRecord, SdtTable, Signature};
+use readings::hpet_at;
 
 /// The IA-PC High Precision Event Timer Table (HPET). Section 5.2.6 reserves its signature, and its layout
 /// is the IA-PC HPET Specification's. `HpetInfo` shows what it contains.
@@ -24,15 +27,7 @@ impl PhysicalRecord for HpetTable {
 
     #[inline(always)]
     fn read(bytes: &[u8]) -> Self {
-        HpetTable {
-            header: SdtHeader::read(bytes),
-            event_timer_block_id: u32_in(bytes, 36),   // Event Timer Block ID
-            address_space: u8_in(bytes, 40),           // BASE_ADDRESS: Address Space ID
-            address: field_in(bytes, 44, 8),           // BASE_ADDRESS: Address
-            hpet_number: u8_in(bytes, 52),             // HPET Number
-            clock_tick_unit: u16_in(bytes, 53),        // Main Counter Minimum Clock_tick in Periodic Mode
-            page_protection_and_oem: u8_in(bytes, 55), // Page Protection And OEM Attribute
-        }
+        hpet_at(bytes)
     }
 }
 

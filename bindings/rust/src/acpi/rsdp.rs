@@ -3,11 +3,14 @@
 
 mod areas;
 mod bios;
+mod readings;
 
 use crate::acpi::root::{RootKind, RootPointer};
-use crate::base::bytes::{byte_sum, field_in, is_text, text_of, u8_in, u32_in};
+use crate::base::bytes::{byte_sum, is_text, text_of};
 use crate::base::{AcpiError, AcpiResult, Lender, PhysicalMapping, PhysicalRecord};
 pub use areas::bios_areas;
+pub(crate) use bios::{Area, second_area};
+use readings::rsdp_of;
 
 /// The Root System Description Pointer (RSDP), by its 36 bytes (section 5.2.5.3). Revision 0 has only the
 /// first 20 of them: the fields after these mean nothing there.
@@ -28,18 +31,7 @@ impl PhysicalRecord for Rsdp {
 
     #[inline(always)]
     fn read(bytes: &[u8]) -> Self {
-        Rsdp {
-            // Signature
-            signature: [bytes[0], bytes[1], bytes[2], bytes[3], bytes[4], bytes[5], bytes[6], bytes[7]],
-            checksum: u8_in(bytes, 8), // Checksum
-            // OEMID
-            oem_id: [bytes[9], bytes[10], bytes[11], bytes[12], bytes[13], bytes[14]],
-            revision: u8_in(bytes, 15),           // Revision
-            rsdt_address: u32_in(bytes, 16),      // RsdtAddress
-            length: u32_in(bytes, 20),            // Length
-            xsdt_address: field_in(bytes, 24, 8), // XsdtAddress
-            ext_checksum: u8_in(bytes, 32),       // Extended Checksum
-        }
+        rsdp_of(bytes)
     }
 }
 

@@ -24,8 +24,8 @@ use crate::fixed::fadt::{Fadt, FadtView};
 /// are physical addresses, and what they lead to are its members, in the order of the pointers. The root
 /// table stays mapped until this is dropped.
 ///
-/// A table is accepted if it is valid, but for the checks that the policy `P` gives up. Without a policy it has to be
-/// valid.
+/// A table is accepted if it passes all checks but those that the policy `P` leaves out. The default, `Valid`, leaves
+/// out none.
 pub struct AcpiTables<'h, H: Lender, P: Policy = Valid> {
     policy: P,
     revision: u8,
@@ -58,8 +58,8 @@ impl<'h, H: Lender, P: Policy> AcpiTables<'h, H, P> {
     /// The first member of the root table that is accepted for `T` (sections 5.2.7 and 5.2.8): its address
     /// is the mapping's `physical_start`, and its bytes are the mapping's.
     ///
-    /// Fails with `TableMissing`, carrying `T::SIGNATURE`, if no member is accepted for `T`. A
-    /// member that isn't lent, or fails another check, is passed over.
+    /// Fails with `TableMissing`, with `T::SIGNATURE`, if no member is accepted for `T`. A member that isn't mapped, or
+    /// fails another check, is skipped.
     #[inline(always)]
     pub fn find_table<T: AcpiTable>(&self) -> AcpiResult<PhysicalMapping<'h, H, T>> {
         match self.first_valid::<T>() {
@@ -69,34 +69,34 @@ impl<'h, H: Lender, P: Policy> AcpiTables<'h, H, P> {
     }
 
     /// The first member of the root table that is accepted as a FADT (section 5.2.9), as `find_table` finds it: a
-    /// field of it is read when it is asked for.
+    /// field of it is read when it is requested.
     ///
     /// Fails as `find_table` does.
     pub fn find_fadt(&self) -> AcpiResult<FadtView<'h, H>> {
         Ok(FadtView::new(self.first_valid::<Fadt>()?))
     }
 
-    /// The AML of all members that are accepted as SSDTs, in order (section 5.2.11.2). It gives at most
+    /// The AML of all members that are accepted as SSDTs, in order (section 5.2.11.2), at most
     /// one for each pointer.
     pub fn ssdts(&self) -> SsdtIterator<'_, 'h, H> {
         SsdtIterator::new(self.root.handler(), self.pointers(), self.policy.bits())
     }
 
-    /// The AML of the DSDT (section 5.2.11.1): that of the table at the address that the first
-    /// accepted FADT gives (section 5.2.9).
+    /// The AML of the DSDT (section 5.2.11.1): that of the table at the address in the first accepted FADT
+    /// (section 5.2.9).
     ///
-    /// Fails, in this order, with `TableMissing` if no accepted FADT is listed, `InvalidDsdtAddress` if
-    /// that FADT gives no address, and with the error of the table there: `MapFailed`,
-    /// `SdtInvalidSignature` and so on, carrying the DSDT's signature.
+    /// Fails, in this order, with `TableMissing` if no accepted FADT is listed, `InvalidDsdtAddress` if that FADT
+    /// has no address of a DSDT, and with the error of the table there: `MapFailed`, `SdtInvalidSignature` and so
+    /// on, with the DSDT's signature.
     pub fn dsdt(&self) -> AcpiResult<AmlTable> {
         let fadt = self.find_fadt()?;
         let accept = self.policy.bits();
         stream_at(self.root.handler(), Signature::DSDT, fadt.dsdt_address()?, accept)
     }
 
-    /// Why members were passed over in a lookup of `T`: the address and the error of each member
-    /// before the first one that is accepted for `T` (of all members if none is) whose error isn't
-    /// `SdtInvalidSignature`, in order. It gives at most one for each pointer.
+    /// Why a lookup of `T` skipped members: the address and the error of each member before the first one that is
+    /// accepted for `T`, or of all members if none is, in order. A member with another signature
+    /// (`SdtInvalidSignature`) is left out. There is at most one for each pointer.
     pub fn faults<T: AcpiTable>(&self) -> TableFaults<'_, 'h, H, T> {
         TableFaults::new(self.root.handler(), self.pointers(), self.policy.bits())
     }
@@ -104,7 +104,7 @@ impl<'h, H: Lender, P: Policy> AcpiTables<'h, H, P> {
 
 impl<'h, H: Lender> AcpiTables<'h, H> {
     /// The headers (section 5.2.6) of all members that are valid under the signatures that they have, in
-    /// order. It gives at most one for each pointer.
+    /// order, at most one for each pointer.
     pub fn headers(&self) -> SdtHeaderIterator<'_, 'h, H> {
         SdtHeaderIterator::new(self.root.handler(), self.pointers())
     }

@@ -1,9 +1,12 @@
 // Made by scripts/erase of crates/acpi_arm/src/frames.rt, where it is proved.
 //! The frames of a GT Block (section 5.2.24.1.1).
 
-use crate::arm::interrupt::{polarity_in, trigger_in, unless_ones};
-use crate::base::bytes::{field, has_bit, skip};
+mod readings;
+
+use crate::arm::interrupt::{polarity_in, trigger_in};
+use crate::base::bytes::{field, skip};
 use crate::base::model::{Polarity, TriggerMode};
+use readings::frame_at;
 
 /// How many bytes the structure of a frame has.
 pub(crate) const FRAME_LENGTH: usize = 40;
@@ -43,26 +46,12 @@ pub struct GtFrame {
 }
 
 /// The interrupt whose number and flags are at an offset. A byte past the end is read as zero.
-pub(crate) fn interrupt_in(bytes: &[u8], offset: usize) -> TimerInterrupt {
+fn interrupt_at(bytes: &[u8], offset: usize) -> TimerInterrupt {
     let flags = field(bytes, offset + 4, 4) as u32; // Flags
     TimerInterrupt {
         interrupt: field(bytes, offset, 4) as u32, // GSIV
         trigger_mode: trigger_in(flags, 0),        // Timer interrupt Mode
         polarity: polarity_in(flags, 1),           // Timer Interrupt polarity
-    }
-}
-
-/// The frame that the bytes begin with. A byte past the end is read as zero.
-fn frame_in(bytes: &[u8]) -> GtFrame {
-    let common_flags = field(bytes, 36, 4); // GTx Common Flags
-    GtFrame {
-        number: field(bytes, 0, 1) as u8,           // GT Frame Number
-        base: field(bytes, 4, 8),                   // GTx Physical address (CntBaseX)
-        el0_base: unless_ones(field(bytes, 12, 8)), // GTx Physical address (CntEL0BaseX)
-        physical_timer: interrupt_in(bytes, 20),    // GTx Physical Timer GSIV, GTx Physical Timer Flags
-        virtual_timer: interrupt_in(bytes, 28),     // GTx Virtual Timer GSIV, GTx Virtual Timer Flags
-        is_secure: has_bit(common_flags, 0),        // Secure Timer
-        is_always_on: has_bit(common_flags, 1),     // Always-on Capability
     }
 }
 
@@ -87,7 +76,7 @@ impl Iterator for GtFrameIter<'_> {
         if self.left == 0 {
             return None;
         }
-        let frame = frame_in(self.rest);
+        let frame = frame_at(self.rest);
         self.rest = skip(self.rest, FRAME_LENGTH);
         self.left -= 1;
         Some(frame)

@@ -2,6 +2,8 @@
 //! The Generic Timer Description Table (GTDT): the timers of the processors, and the platform's
 //! (section 5.2.24).
 
+mod readings;
+
 pub use crate::arm::frames::{GtFrame, GtFrameIter, TimerInterrupt};
 use crate::arm::interrupt::{polarity_in, trigger_in, unless_ones};
 pub use crate::arm::structures::TimerStructureIter;
@@ -9,11 +11,12 @@ pub use crate::arm::timers::{
     GtBlock, PlatformTimer, PlatformTimerIter, SbsaWatchdog, frames_end, is_sound, timer_bytes, timer_count,
     timers_grammar, timers_offset,
 };
-use crate::base::bytes::{field_in, has_bit, u32_in};
+use crate::base::bytes::{has_bit, u32_in};
 use crate::base::extended::ExtendedField;
 use crate::base::model::{Polarity, TriggerMode};
 use crate::base::sdt::SdtHeader;
 use crate::base::{PhysicalRecord, SdtTable, Signature};
+use readings::gtdt_at;
 
 /// A timer that every processor has, by its GSIV and its flags in a GTDT (section 5.2.24).
 #[derive(Clone, Copy, Debug)]
@@ -35,12 +38,12 @@ impl PhysicalRecord for ArmTimer {
 
     #[inline(always)]
     fn read(bytes: &[u8]) -> Self {
-        timer_in(bytes, 0)
+        arm_timer_at(bytes, 0)
     }
 }
 
 /// The timer whose interrupt and flags are at an offset.
-fn timer_in(bytes: &[u8], offset: usize) -> ArmTimer {
+fn arm_timer_at(bytes: &[u8], offset: usize) -> ArmTimer {
     let flags = u32_in(bytes, offset + 4); // Flags
     ArmTimer {
         interrupt: u32_in(bytes, offset),    // GSIV
@@ -79,18 +82,7 @@ impl PhysicalRecord for Gtdt {
 
     #[inline(always)]
     fn read(bytes: &[u8]) -> Self {
-        Gtdt {
-            header: SdtHeader::read(bytes),
-            control_base: field_in(bytes, 36, 8),  // CntControlBase Physical Address
-            secure_el1_timer: timer_in(bytes, 48), // Secure EL1 Timer GSIV, Secure EL1 Timer Flags
-            non_secure_el1_timer: timer_in(bytes, 56), // Non-Secure EL1 Timer GSIV, Non-Secure EL1 Timer Flags
-            virtual_el1_timer: timer_in(bytes, 64), // Virtual EL1 Timer GSIV, Virtual EL1 Timer Flags
-            el2_timer: timer_in(bytes, 72),        // EL2 Timer GSIV, EL2 Timer Flags
-            read_base: field_in(bytes, 80, 8),     // CntReadBase Physical Address
-            platform_timer_count: u32_in(bytes, 88), // Platform Timer Count
-            platform_timer_offset: u32_in(bytes, 92), // Platform Timer Offset
-            el2_virtual: ExtendedField::read(bytes, 96), // Virtual EL2 Timer GSIV, Virtual EL2 Timer Flags
-        }
+        gtdt_at(bytes)
     }
 }
 

@@ -1,11 +1,13 @@
 // Made by scripts/erase of crates/acpi_arm/src/timers.rt, where it is proved.
 //! The Platform Timer Structures of a GTDT, one at a time (section 5.2.24.1).
 
+mod readings;
+
 use crate::arm::frames::{FRAME_LENGTH, GtFrameIter};
-use crate::arm::interrupt::{polarity_in, trigger_in};
-use crate::base::bytes::{field, has_bit, skip};
+use crate::base::bytes::{field, skip};
 use crate::base::entries::{EntryLayout, Grammar, Place, Width, split_front};
 use crate::base::model::{Polarity, TriggerMode};
+use readings::watchdog_at;
 
 /// GT Block: a block of timers in memory (section 5.2.24.1.1).
 #[derive(Clone, Copy)]
@@ -102,22 +104,9 @@ impl<'a> PlatformTimer<'a> {
                     frames: GtFrameIter::over(frames, frame_count),
                 }))
             }
-            1 => Some(PlatformTimer::SbsaWatchdog(watchdog_in(structure))),
+            1 => Some(PlatformTimer::SbsaWatchdog(watchdog_at(structure))),
             _ => None,
         }
-    }
-}
-
-/// The watchdog that a structure describes.
-fn watchdog_in(structure: &[u8]) -> SbsaWatchdog {
-    let flags = field(structure, 24, 4) as u32; // Watchdog Timer Flags
-    SbsaWatchdog {
-        refresh_frame: field(structure, 4, 8),     // RefreshFrame Physical Address
-        control_frame: field(structure, 12, 8),    // WatchdogControlFrame Physical Address
-        interrupt: field(structure, 20, 4) as u32, // Watchdog Timer GSIV
-        trigger_mode: trigger_in(flags, 0),        // Timer interrupt Mode
-        polarity: polarity_in(flags, 1),           // Timer Interrupt polarity
-        is_secure: has_bit(flags as u64, 2),       // Secure Timer
     }
 }
 

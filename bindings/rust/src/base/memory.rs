@@ -3,5 +3,6 @@
 
 pub(crate) mod claim;
 pub mod guarded;
-pub mod handler;
 pub mod mapping;
+
+pub use crate::bytes::handler;

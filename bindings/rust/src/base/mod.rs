@@ -1,6 +1,6 @@
 // Made by scripts/erase of crates/acpi_base/src/lib.rt, where it is proved.
-//! The lowest layer of a reader of static ACPI tables: memory that a handler maps, mappings of
-//! records in it, and the headers and checks that every table has.
+//! Mappings of records in memory that a handler maps, and the table at an address. The modules of the crate below, by
+//! which bytes are read, are here too.
 //!
 //! The MADT, the MCFG and the SPCR are here too, and the interrupt model that a MADT leads to:
 //! some of their functions are methods of a table's mapping, since they read entries or a text of the
@@ -15,19 +15,13 @@
 // It is written as it is proved.
 #![allow(clippy::style, clippy::complexity, clippy::perf, clippy::manual_unwrap_or_default)]
 
-pub mod address;
-pub mod bytes;
 mod codes;
-pub mod entries;
-pub mod error;
-pub mod extended;
-pub mod managed_slice;
 pub mod memory;
 pub mod model;
-pub mod range;
 pub mod table;
 pub mod tables;
 
+pub use crate::bytes::{address, bytes, entries, error, extended, managed_slice, range};
 pub use error::{AcpiError, AcpiResult, MadtError};
 pub use memory::guarded::Guarded;
 pub use memory::handler::{AcpiHandler, Lender, PhysicalRecord};

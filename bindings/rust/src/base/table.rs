@@ -3,12 +3,11 @@
 
 pub mod header;
 mod lookup;
-pub mod signature;
-pub(crate) mod sum;
 
 use crate::base::bytes::byte_sum;
 use crate::base::error::{AcpiError, AcpiResult};
 use crate::base::memory::handler::PhysicalRecord;
+pub use crate::bytes::signature;
 use header::SdtHeader;
 pub use lookup::{ValidTable, accepted_at, map_own_sdt, map_sdt, map_table, own_valid_by, valid_at, valid_by};
 use signature::Signature;

@@ -1,5 +1,5 @@
 // Made by scripts/erase of crates/acpi_c/src/made.rt, where it is proved.
-//! Made by scripts/exports: the calls that the functions of acpi_c_lib make.
+//! Made by scripts/exports: the calls that the functions of the crates below make.
 
 mod devices;
 mod gic;

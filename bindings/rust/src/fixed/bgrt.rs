@@ -2,9 +2,12 @@
 //! The Boot Graphics Resource Table (BGRT): the image that the firmware showed while it started the machine
 //! (section 5.2.22).
 
-use crate::base::bytes::{bits, field_in, has_bit, u8_in, u16_in, u32_in};
+mod readings;
+
+use crate::base::bytes::{bits, has_bit};
 use crate::base::sdt::SdtHeader;
 use crate::base::{PhysicalRecord, SdtTable, Signature};
+use readings::bgrt_at;
 
 /// The Boot Graphics Resource Table (BGRT, section 5.2.22): an image in memory, and its place on the
 /// screen.
@@ -27,15 +30,7 @@ impl PhysicalRecord for Bgrt {
 
     #[inline(always)]
     fn read(bytes: &[u8]) -> Self {
-        Bgrt {
-            header: SdtHeader::read(bytes),
-            version: u16_in(bytes, 36),            // Version
-            status: u8_in(bytes, 38),              // Status
-            image_type: u8_in(bytes, 39),          // Image Type
-            image_address: field_in(bytes, 40, 8), // Image Address
-            x: u32_in(bytes, 48),                  // Image Offset X
-            y: u32_in(bytes, 52),                  // Image Offset Y
-        }
+        bgrt_at(bytes)
     }
 }
 

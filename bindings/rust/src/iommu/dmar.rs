@@ -3,15 +3,17 @@
 //! memory is reserved for a device.
 
 mod fields;
+mod readings;
 mod reserved;
 mod scope;
 mod structure;
 mod units;
 
-use crate::base::bytes::{field_in, has_bit};
+use crate::base::bytes::has_bit;
 use crate::base::sdt::SdtHeader;
 use crate::base::{PhysicalRecord, SdtTable, Signature};
 pub use fields::{Andd, Atsr, DmarFields, Drhd, Rhsa, Rmrr, Satc, Sidp};
+use readings::dmar_at;
 pub use reserved::ReservedIter;
 pub use scope::{DeviceScope, DeviceScopeIter, Hop, HopIter};
 pub use structure::{DmarStructure, DmarStructureIter};
@@ -33,11 +35,7 @@ impl PhysicalRecord for Dmar {
 
     #[inline(always)]
     fn read(bytes: &[u8]) -> Self {
-        Dmar {
-            header: SdtHeader::read(bytes),
-            host_address_width: field_in(bytes, 36, 1) as u8, // Host Address Width
-            flags: field_in(bytes, 37, 1) as u8,              // Flags
-        }
+        dmar_at(bytes)
     }
 }
 

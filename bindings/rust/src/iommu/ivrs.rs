@@ -5,13 +5,14 @@
 mod block;
 mod blocks;
 mod entry;
+mod readings;
 
-use crate::base::bytes::field_in;
 use crate::base::sdt::SdtHeader;
 use crate::base::{PhysicalRecord, SdtTable, Signature};
 pub use block::{Ivhd, Ivmd, IvrsBlock, IvrsBlockIter, IvrsFields};
 pub use blocks::{BestBlockIter, DeviceUnit, IvrsBlocks, MemoryIter};
 pub use entry::{DeviceEntry, DeviceEntryIter, SpecialDevice};
+use readings::ivrs_at;
 
 /// The I/O Virtualization Reporting Structure (IVRS, section 5.2). Its blocks are after 48 fixed bytes; `IvrsBlocks`
 /// reads them.
@@ -27,10 +28,7 @@ impl PhysicalRecord for Ivrs {
 
     #[inline(always)]
     fn read(bytes: &[u8]) -> Self {
-        Ivrs {
-            header: SdtHeader::read(bytes),
-            info: field_in(bytes, 36, 4) as u32, // IVinfo
-        }
+        ivrs_at(bytes)
     }
 }
 

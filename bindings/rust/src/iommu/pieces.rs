@@ -10,7 +10,7 @@ pub trait PieceKind<'a> {
     /// A piece.
     type Piece;
 
-    /// The length that the piece has with which bytes begin, by these, or `None` if that is less than it can be.
+    /// The length of the piece at the front of bytes, as these bytes have it, or `None` if it is too small.
     fn size_at(bytes: &[u8]) -> Option<usize>;
 
     /// The piece that has these bytes.
@@ -21,11 +21,11 @@ pub trait PieceKind<'a> {
 }
 
 /// The length that is in a piece, or `None` if it is less than the least.
-pub(crate) fn said(least: usize, size: usize) -> Option<usize> {
+pub(crate) fn valid_length(least: usize, size: usize) -> Option<usize> {
     if least <= size { Some(size) } else { None }
 }
 
-/// How many bytes the piece has with which bytes begin, or `None` if none begins.
+/// The length of the piece at the front of bytes, or `None` if no piece begins there.
 fn front<'a, K: PieceKind<'a>>(bytes: &[u8]) -> Option<usize> {
     match K::size_at(bytes) {
         Some(size) if 1 <= size && size <= bytes.len() => Some(size),
@@ -33,7 +33,7 @@ fn front<'a, K: PieceKind<'a>>(bytes: &[u8]) -> Option<usize> {
     }
 }
 
-/// The bytes of the piece with which bytes begin, and those after it, or `None` if none begins.
+/// The bytes of the piece at the front of bytes, and those after it, or `None` if no piece begins there.
 fn split<'a, K: PieceKind<'a>>(bytes: &'a [u8]) -> Option<(&'a [u8], &'a [u8])> {
     let size = front::<K>(bytes)?;
     Some(bytes.split_at(size))

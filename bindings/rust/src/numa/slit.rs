@@ -1,9 +1,12 @@
 // Made by scripts/erase of crates/acpi_numa/src/slit.rt, where it is proved.
 //! The System Locality Information Table (SLIT): how far localities are from each other (section 5.2.17).
 
-use crate::base::bytes::{field, field_in};
+mod readings;
+
+use crate::base::bytes::field;
 use crate::base::sdt::SdtHeader;
 use crate::base::{PhysicalRecord, SdtTable, Signature};
+use readings::slit_at;
 
 /// The System Locality Information Table (SLIT, section 5.2.17). After these fields it has a byte for each
 /// pair of localities, which `Distances` reads.
@@ -20,10 +23,7 @@ impl PhysicalRecord for Slit {
 
     #[inline(always)]
     fn read(bytes: &[u8]) -> Self {
-        Slit {
-            header: SdtHeader::read(bytes),
-            localities: field_in(bytes, 36, 8), // Number of System Localities
-        }
+        slit_at(bytes)
     }
 }
 

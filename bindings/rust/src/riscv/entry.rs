@@ -1,7 +1,9 @@
 // Made by scripts/erase of crates/acpi_riscv/src/entry.rt, where it is proved.
 //! The entries of a MADT that describe a RISC-V machine (section 5.2.12).
 
-use crate::base::bytes::field;
+mod readings;
+
+use readings::{aplic_at, imsic_at, plic_at, rintc_at};
 
 /// RISC-V Interrupt Controller (RINTC), type 0x18: a hart and its interrupt controller. An entry of 20 bytes has no
 /// External Interrupt Controller ID and no IMSIC: these fields are 0.
@@ -141,58 +143,5 @@ fn least_of(kind: u8) -> usize {
         0x19 => 16,
         0x1a | 0x1b => 36,
         _ => 0,
-    }
-}
-
-fn rintc_at(entry: &[u8]) -> Rintc {
-    Rintc {
-        version: field(entry, 2, 1) as u8,                            // Version
-        flags: field(entry, 4, 4) as u32,                             // Flags
-        hart_id: field(entry, 8, 8),                                  // Hart ID
-        processor_uid: field(entry, 16, 4) as u32,                    // ACPI Processor UID
-        external_interrupt_controller_id: field(entry, 20, 4) as u32, // External Interrupt Controller ID
-        imsic_address: field(entry, 24, 8),                           // IMSIC Base Address
-        imsic_size: field(entry, 32, 4) as u32,                       // IMSIC Size
-    }
-}
-
-fn imsic_at(entry: &[u8]) -> Imsic {
-    Imsic {
-        version: field(entry, 2, 1) as u8,                // Version
-        flags: field(entry, 4, 4) as u32,                 // Flags
-        supervisor_identities: field(entry, 8, 2) as u16, // Number of Supervisor Mode Interrupt Identities
-        guest_identities: field(entry, 10, 2) as u16,     // Number of Guest Mode Interrupt Identities
-        guest_index_bits: field(entry, 12, 1) as u8,      // Guest Index Bits
-        hart_index_bits: field(entry, 13, 1) as u8,       // Hart Index Bits
-        group_index_bits: field(entry, 14, 1) as u8,      // Group Index Bits
-        group_index_shift: field(entry, 15, 1) as u8,     // Group Index Shift
-    }
-}
-
-fn aplic_at(entry: &[u8]) -> Aplic {
-    Aplic {
-        version: field(entry, 2, 1) as u8,                        // Version
-        id: field(entry, 3, 1) as u8,                             // APLIC ID
-        flags: field(entry, 4, 4) as u32,                         // Flags
-        hardware_id: field(entry, 8, 8),                          // Hardware ID
-        idc_count: field(entry, 16, 2) as u16,                    // Number of IDCs
-        source_count: field(entry, 18, 2) as u16,                 // Total External Interrupt Sources Supported
-        global_system_interrupt_base: field(entry, 20, 4) as u32, // Global System Interrupt Base
-        address: field(entry, 24, 8),                             // APLIC Address
-        size: field(entry, 32, 4) as u32,                         // APLIC Size
-    }
-}
-
-fn plic_at(entry: &[u8]) -> Plic {
-    Plic {
-        version: field(entry, 2, 1) as u8,                        // Version
-        id: field(entry, 3, 1) as u8,                             // PLIC ID
-        hardware_id: field(entry, 4, 8),                          // Hardware ID
-        source_count: field(entry, 12, 2) as u16,                 // Total External Interrupt Sources Supported
-        max_priority: field(entry, 14, 2) as u16,                 // Max Priority
-        flags: field(entry, 16, 4) as u32,                        // Flags
-        size: field(entry, 20, 4) as u32,                         // PLIC Size
-        address: field(entry, 24, 8),                             // PLIC Address
-        global_system_interrupt_base: field(entry, 32, 4) as u32, // Global System Interrupt Vector Base
     }
 }

@@ -3,12 +3,12 @@
 
 use crate::base::Signature;
 use crate::base::bytes::{field, filled};
-use crate::write::checked::require;
+use crate::table_writer::checked::require;
+use crate::table_writer::error::WriterError;
+use crate::table_writer::ids::TableIds;
+use crate::table_writer::spelled::Bytes;
+use crate::table_writer::table::{Table, write};
 use crate::write::contents::AmlContents;
-use crate::write::error::WriterError;
-use crate::write::ids::TableIds;
-use crate::write::spelled::Bytes;
-use crate::write::table::{Table, write};
 
 /// Writes a DSDT to the front of a slice, and returns how many bytes it has: 36, and the AML bytes. By a revision of 1
 /// AML's integers have 32 bits, by one of 2 they have 64.

@@ -2,11 +2,10 @@
 //! The Boot Graphics Resource Table (BGRT, section 5.2.22), from what it contains of an image.
 
 use crate::base::Signature;
-use crate::write::error::WriterError;
-use crate::write::fields::{Field, Record};
-use crate::write::ids::TableIds;
-use crate::write::numbers::bit_of;
-use crate::write::table::{Table, write};
+use crate::table_writer::error::WriterError;
+use crate::table_writer::ids::TableIds;
+use crate::table_writer::numbers::bit_of;
+use crate::table_writer::table::{Table, write};
 
 /// Orientation Offset: by how many degrees an image was turned clockwise before it was drawn (section 5.2.22).
 #[derive(Clone, Copy)]
@@ -46,24 +45,8 @@ fn orientation_code(orientation: BgrtOrientation) -> u8 {
 }
 
 /// The byte Status.
-fn status_of(contents: &BgrtContents) -> u8 {
+pub(crate) fn status_of(contents: &BgrtContents) -> u8 {
     bit_of(contents.was_displayed) + 2 * orientation_code(contents.orientation_offset)
-}
-
-impl Record for BgrtContents {
-    type Fields = [Field; 6];
-
-    fn fields(&self) -> [Field; 6] {
-        let (x, y) = self.image_offset;
-        [
-            Field::U16(1),
-            Field::U8(status_of(self)),
-            Field::U8(0),
-            Field::U64(self.image_address),
-            Field::U32(x),
-            Field::U32(y),
-        ]
-    }
 }
 
 impl Table for BgrtContents {

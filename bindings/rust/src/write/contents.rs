@@ -4,18 +4,19 @@
 use crate::acpi::HpetInfo;
 use crate::base::Signature;
 use crate::base::mcfg::McfgEntry;
+pub use crate::table_writer::contents::SlitContents;
+use crate::table_writer::error::WriterError;
+use crate::table_writer::gtdt::GtdtContents;
+use crate::table_writer::ids::TableIds;
+use crate::table_writer::listed::Listed;
+use crate::table_writer::madt::MadtContents;
+use crate::table_writer::madt::gic::GicContents;
+use crate::table_writer::mcfg::Regions;
+use crate::table_writer::srat::SratContents;
 use crate::write::aml::Aml;
 use crate::write::bgrt::BgrtContents;
-use crate::write::error::WriterError;
 use crate::write::fadt::FadtContents;
-use crate::write::gtdt::GtdtContents;
-use crate::write::ids::TableIds;
-use crate::write::listed::Listed;
-use crate::write::madt::MadtContents;
-use crate::write::madt::gic::GicContents;
-use crate::write::mcfg::Regions;
 use crate::write::spcr::SpcrContents;
-use crate::write::srat::SratContents;
 
 /// What a table of AML is to have after its header (section 5.2.11).
 #[derive(Clone, Copy)]
@@ -24,15 +25,6 @@ pub struct AmlContents<'a> {
     pub revision: u8,
     /// The AML bytes, taken as they are.
     pub bytes: &'a [u8],
-}
-
-/// The contents of a SLIT (section 5.2.17).
-#[derive(Clone, Copy)]
-pub struct SlitContents<'a> {
-    /// Number of System Localities.
-    pub localities: u64,
-    /// The distances, row by row: those from the first locality come first.
-    pub distances: &'a [u8],
 }
 
 /// A table that an XSDT can list, with its contents. Each is written as the function of its name writes it.
@@ -60,18 +52,6 @@ pub enum TableContents<'a> {
     Gtdt(GtdtContents<'a>),
     /// `write_gic_madt`.
     GicMadt(GicContents<'a>),
-}
-
-/// The least multiple of 16 that isn't below a number.
-pub(crate) fn rounded(n: usize) -> usize {
-    n + (15 - (n + 15) % 16)
-}
-
-/// Puts zeros after this number of bytes, up to a multiple of 16, which it returns.
-pub(crate) fn fill_up(out: &mut [u8], size: usize) -> usize {
-    let end = rounded(size);
-    out[size..end].fill(0);
-    end
 }
 
 impl Listed for TableContents<'_> {

@@ -1,8 +1,8 @@
 // Made by scripts/erase of crates/acpi_writer/src/facs.rt, where it is proved.
 //! The Firmware ACPI Control Structure (FACS, section 5.2.10).
 
-use crate::write::error::WriterError;
-use crate::write::numbers::{bit_of, dword, qword};
+use crate::table_writer::error::WriterError;
+use crate::table_writer::numbers::{bit_of, dword, qword};
 use crate::write::rsdp::write_front;
 
 /// The contents of a FACS (section 5.2.10).

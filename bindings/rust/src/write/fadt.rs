@@ -3,18 +3,18 @@
 
 mod contents;
 mod features;
-mod parts;
+pub(crate) mod parts;
 
 use crate::base::Signature;
 use crate::base::address::GenericAddress;
 use crate::fixed::fadt::PowerProfile;
-use crate::write::checked::require;
-use crate::write::error::WriterError;
-use crate::write::fields::Field;
-use crate::write::generic::is_register;
-use crate::write::ids::TableIds;
-use crate::write::spelled::Then;
-use crate::write::table::{Table, write};
+use crate::table_writer::checked::require;
+use crate::table_writer::error::WriterError;
+use crate::table_writer::fields::Field;
+use crate::table_writer::generic::is_register;
+use crate::table_writer::ids::TableIds;
+use crate::table_writer::spelled::Then;
+use crate::table_writer::table::{Table, write};
 pub use contents::{FadtContents, FadtHardware, FixedHardware, LegacyFields};
 pub use features::{ArmBootFeatures, FixedFeatures, PcBootFeatures};
 use parts::{Front, Wide, WideRegisters, gpe_register};

@@ -3,16 +3,17 @@
 
 use crate::base::Signature;
 use crate::sums::set_sum;
+use crate::table_writer::checked::require;
+use crate::table_writer::error::WriterError;
+use crate::table_writer::ids::TableIds;
+use crate::table_writer::listed::Listed;
+use crate::table_writer::numbers::qword;
+use crate::table_writer::table::table_head;
 use crate::write::aml::Aml;
-use crate::write::checked::require;
-use crate::write::contents::{AmlContents, TableContents, rounded};
-use crate::write::error::WriterError;
+use crate::write::contents::{AmlContents, TableContents};
 use crate::write::facs::{FacsContents, facs_bytes};
-use crate::write::ids::TableIds;
-use crate::write::listed::{self, Listed};
-use crate::write::numbers::qword;
+use crate::write::placed::{self, rounded};
 use crate::write::rsdp::{put_front, rsdp_bytes};
-use crate::write::table::table_head;
 
 /// A machine, as its tables describe it.
 #[derive(Clone, Copy)]
@@ -82,7 +83,7 @@ fn dsdt_size<T>(machine: &Machine<'_, T>) -> Result<usize, WriterError> {
 /// How many bytes the DSDT takes. One that can't be written takes none.
 fn dsdt_place<T>(machine: &Machine<'_, T>) -> usize {
     match machine.dsdt {
-        Some(dsdt) => listed::place(&Aml(Signature::DSDT, dsdt), &machine.ids),
+        Some(dsdt) => placed::place(&Aml(Signature::DSDT, dsdt), &machine.ids),
         None => 0,
     }
 }
@@ -118,7 +119,7 @@ fn put_addresses<T: Listed>(out: &mut [u8], start: u64, ids: &TableIds, tables: 
     let mut at = 0;
     for table in tables {
         out[at..at + 8].copy_from_slice(&qword(place));
-        place += listed::place(table, ids) as u64;
+        place += placed::place(table, ids) as u64;
         at += 8;
     }
 }
@@ -127,14 +128,14 @@ fn put_addresses<T: Listed>(out: &mut [u8], start: u64, ids: &TableIds, tables: 
 fn put_listed<T: Listed>(out: &mut [u8], ids: &TableIds, tables: &[T]) {
     let mut at = 0;
     for table in tables {
-        at += listed::put(table, &mut out[at..], ids);
+        at += placed::put(table, &mut out[at..], ids);
     }
 }
 
 /// Puts the DSDT, if there is one.
 fn put_dsdt<T>(out: &mut [u8], machine: &Machine<'_, T>) {
     if let Some(dsdt) = machine.dsdt {
-        listed::put(&Aml(Signature::DSDT, dsdt), out, &machine.ids);
+        placed::put(&Aml(Signature::DSDT, dsdt), out, &machine.ids);
     }
 }
 

@@ -1,5 +1,6 @@
 // Made by scripts/erase of crates/acpi_writer/src/lib.rt, where it is proved.
-//! Static ACPI tables, written from their contents, into a slice of the caller's. No heap is needed.
+//! Static ACPI tables, written from their contents, into a slice of the caller's. No heap is needed. The tables of the
+//! crate below are here too.
 //!
 //! Section numbers refer to the ACPI Specification, version 6.4.
 
@@ -10,53 +11,29 @@
 #![allow(clippy::style, clippy::complexity, clippy::perf, clippy::manual_unwrap_or_default)]
 
 pub mod aml;
-mod arm;
 pub mod bgrt;
-mod checked;
 pub mod contents;
-pub mod error;
 pub mod facs;
 pub mod fadt;
-pub mod fields;
-mod flags;
-pub mod generic;
-pub mod gtdt;
-pub mod hpet;
-pub mod ids;
-pub mod listed;
 pub mod machine;
-pub mod madt;
-pub mod mcfg;
-mod numbers;
-pub mod rhct;
+mod made;
+mod placed;
 pub mod root;
 pub mod rsdp;
-pub mod slit;
 pub mod spcr;
-pub mod spelled;
-pub mod srat;
-mod table;
 
+pub use crate::table_writer::{
+    ApicDomain, Checked, GicContents, GiccDomain, GtBlockContents, GtdtContents, Listed, MadtContents, MadtNmiLine,
+    MadtProcessor, PlatformTimerContents, RhctContents, RiscvContents, SratContents, TableIds, WriterError, error,
+    fields, generic, gtdt, hpet, ids, listed, madt, mcfg, require, rhct, slit, spelled, srat, write_gic_madt,
+    write_gtdt, write_hpet, write_madt, write_mcfg, write_rhct, write_riscv_madt, write_slit, write_srat, write_table,
+};
 pub use aml::{write_dsdt, write_ssdt};
 pub use bgrt::{BgrtContents, BgrtOrientation, write_bgrt};
-pub use checked::{Checked, require};
 pub use contents::{AmlContents, SlitContents, TableContents};
-pub use error::WriterError;
 pub use facs::{FacsContents, write_facs};
 pub use fadt::{FadtContents, FadtHardware, write_fadt};
-pub use gtdt::{GtBlockContents, GtdtContents, PlatformTimerContents, write_gtdt};
-pub use hpet::write_hpet;
-pub use ids::TableIds;
-pub use listed::Listed;
 pub use machine::{Machine, dsdt_address, facs_address, tables_size, write_tables, write_tables_without_rsdp};
-pub use madt::gic::{GicContents, write_gic_madt};
-pub use madt::riscv::{RiscvContents, write_riscv_madt};
-pub use madt::{MadtContents, MadtNmiLine, MadtProcessor, write_madt};
-pub use mcfg::write_mcfg;
-pub use rhct::{RhctContents, write_rhct};
 pub use root::{write_rsdt, write_xsdt};
 pub use rsdp::write_rsdp;
-pub use slit::write_slit;
 pub use spcr::{SpcrContents, SpcrPciDevice, write_spcr};
-pub use srat::{ApicDomain, GiccDomain, SratContents, write_srat};
-pub use table::write_table;

@@ -2,31 +2,10 @@
 //! The root tables: the RSDT (section 5.2.7) and the XSDT (section 5.2.8), from the addresses of the tables.
 
 use crate::base::Signature;
-use crate::write::error::WriterError;
-use crate::write::fields::Field;
-use crate::write::ids::TableIds;
-use crate::write::spelled::{Each, Spelled};
-use crate::write::table::write_table;
-
-impl Spelled for u32 {
-    fn measure(&self, room: usize) -> Option<usize> {
-        Field::U32(*self).measure(room)
-    }
-
-    fn put(&self, out: &mut [u8]) {
-        Field::U32(*self).put(out)
-    }
-}
-
-impl Spelled for u64 {
-    fn measure(&self, room: usize) -> Option<usize> {
-        Field::U64(*self).measure(room)
-    }
-
-    fn put(&self, out: &mut [u8]) {
-        Field::U64(*self).put(out)
-    }
-}
+use crate::table_writer::error::WriterError;
+use crate::table_writer::ids::TableIds;
+use crate::table_writer::spelled::Each;
+use crate::table_writer::table::write_table;
 
 /// Writes an RSDT of revision 1 to the front of a slice, and returns how many bytes it has: 36, and 4 for each address.
 /// No address, and one of 0, are written as they are.

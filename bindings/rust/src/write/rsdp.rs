@@ -2,8 +2,8 @@
 //! The Root System Description Pointer (RSDP, section 5.2.5.3), from the address of an XSDT.
 
 use crate::sums::rsdp_to;
-use crate::write::error::WriterError;
-use crate::write::ids::TableIds;
+use crate::table_writer::error::WriterError;
+use crate::table_writer::ids::TableIds;
 
 /// An RSDP of revision 2.
 pub(crate) fn rsdp_bytes(ids: &TableIds, xsdt: u64) -> [u8; 36] {

@@ -2,18 +2,18 @@
 //! The Serial Port Console Redirection Table (SPCR, section 5.2.6), from what it contains of a serial port. Its layout
 //! is Microsoft's.
 
-mod fields;
+pub(crate) mod fields;
 
 use crate::base::Signature;
 use crate::base::address::GenericAddress;
 use crate::base::spcr::{SpcrFlowControl, SpcrInterfaceType, SpcrInterruptType, SpcrTerminalType};
-use crate::write::checked::require;
-use crate::write::error::WriterError;
-use crate::write::fields::Field;
-use crate::write::generic::is_named_space;
-use crate::write::ids::TableIds;
-use crate::write::spelled::{Bytes, Spelled, Then};
-use crate::write::table::{Table, write};
+use crate::table_writer::checked::require;
+use crate::table_writer::error::WriterError;
+use crate::table_writer::generic::is_named_space;
+use crate::table_writer::ids::TableIds;
+use crate::table_writer::spelled::Then;
+use crate::table_writer::table::{Table, write};
+use fields::Name;
 
 /// The PCI device that a serial port is, as an SPCR has it.
 #[derive(Clone, Copy)]
@@ -114,22 +114,6 @@ impl<'a> Table for SpcrContents<'a> {
 
     fn body(&self) -> Then<SpcrContents<'a>, Name<'a>> {
         Then(*self, Name(self.namespace_string))
-    }
-}
-
-/// NamespaceString, which a zero ends.
-#[derive(Clone, Copy)]
-pub(crate) struct Name<'a>(&'a str);
-
-impl Spelled for Name<'_> {
-    fn measure(&self, room: usize) -> Option<usize> {
-        let text = self.0.as_bytes();
-        let size = text.len() + 1;
-        if room < size { None } else { Some(size) }
-    }
-
-    fn put(&self, out: &mut [u8]) {
-        Then(Bytes(self.0.as_bytes()), Field::U8(0)).put(out);
     }
 }
 

@@ -1,6 +1,8 @@
 //! Memory that tests lay out by hand, a field at a time: an offset is beside the name that the specification has
 //! for its field.
 #![allow(dead_code)]
+pub mod writing;
+
 use std::fmt::Debug;
 use zacpi::address::{AccessSize, AddressSpace, GenericAddress};
 use zacpi::handler::MappedRegion;

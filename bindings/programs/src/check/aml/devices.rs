@@ -8,7 +8,7 @@ use crate::check::machine::Machine;
 use crate::check::numbers::{Kept, Numbers};
 use crate::check::pieces::Pieces;
 use crate::rattle::Vec;
-use crate::walk::aml::value::{elements_of, integer_in, next_element};
+use crate::walk::aml::constant::{elements_of, integer_in, next_element};
 use crate::walk::fields::print_path;
 use zacpi::sdt::{Signature, field};
 

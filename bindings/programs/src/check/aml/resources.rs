@@ -4,8 +4,8 @@
 use super::names::{Named, Names};
 use crate::check::findings::Findings;
 use crate::rattle::Pieces;
+use crate::walk::aml::constant::buffer_in;
 use crate::walk::aml::resources::{Descriptors, END, tag_of};
-use crate::walk::aml::value::buffer_in;
 use crate::walk::language::{is_chosen, next_word, number_of};
 use zacpi::base::bytes::byte_sum;
 

@@ -4,7 +4,7 @@
 use super::names::{Named, Names, ROOT};
 use crate::check::findings::Findings;
 use crate::check::machine::Machine;
-use crate::walk::aml::value::{elements_of, integer_in, is_eisa_id, name_in, next_element};
+use crate::walk::aml::constant::{elements_of, integer_in, is_eisa_id, name_in, next_element};
 use crate::walk::fields::print_path;
 use zacpi::sdt::{Signature, field};
 

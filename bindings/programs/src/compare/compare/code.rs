@@ -8,9 +8,6 @@ use crate::input::entries::Entry;
 use crate::rattle::Vec;
 use crate::rattle::alloc::{AllocError, Global};
 use crate::walk::out::Out;
-use crate::walk::walk::has_aml;
-use zacpi::PhysicalRecord;
-use zacpi::sdt::SdtHeader;
 
 /// A line that one of two tables alone has: whether that is the first, its offset there, how deep it is, and where its
 /// text is in the text of all.
@@ -96,7 +93,9 @@ impl ShowLines for CodeChanges {
     }
 }
 
-/// The segments of a path that is printed.
+/// The segments of a path that is printed, four letters each, from its first one on.
+///
+/// Fails if memory runs out.
 pub fn segments_of(alloc: Global, path: &str) -> Result<Vec<u8>, AllocError> {
     let mut segments = Vec::new(alloc);
     for byte in path.as_bytes() {
@@ -152,14 +151,13 @@ impl CodeChanges {
     }
 }
 
-/// The names that the tables of an input define.
+/// The names that the tables of an input define, valid or not: any of them may define what the AML of another calls.
+///
+/// If memory runs out, this fails, or `Known::new` with what it returns.
 pub fn names_in(alloc: Global, entries: &[Entry<'_>]) -> Result<Paths, AllocError> {
     let mut tables = Vec::new(alloc);
     for entry in entries {
-        if let Some(signature) = entry.signature()
-            && has_aml(signature)
-            && entry.bytes.len() >= SdtHeader::MIN_LENGTH
-        {
+        if entry.has_aml() {
             tables.push(entry.bytes)?;
         }
     }

@@ -3,11 +3,11 @@
 
 use super::Output;
 use super::read::memory_of;
-use crate::dump::document::Document;
 use crate::input::candidates::{Candidate, candidates};
 use crate::input::errors::{Log, Stop, fail};
 use crate::input::gather::Input;
 use crate::json::Token;
+use crate::summary::document::Document;
 use crate::walk::out::Out;
 
 /// Prints a line for each RSDP: its address, what it points to, and what the checks say.

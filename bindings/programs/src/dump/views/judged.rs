@@ -7,7 +7,6 @@ use super::sarif::print_sarif;
 use super::{Output, strict_status};
 use crate::check::findings_of;
 use crate::dump::arguments::View;
-use crate::dump::document::Document;
 use crate::dump::values::{Format, Order};
 use crate::input::entries::{Entry, Place, own_signature, print_name};
 use crate::input::errors::{Log, Stop};
@@ -15,6 +14,7 @@ use crate::input::gather::Input;
 use crate::input::judgement::{Finding, Judgement, Severity, counts_of};
 use crate::json::Token;
 use crate::rattle::alloc::AllocError;
+use crate::summary::document::Document;
 use crate::walk::out::Out;
 
 /// Prints where a finding is, and its message.

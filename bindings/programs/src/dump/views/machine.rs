@@ -4,8 +4,6 @@
 
 use super::read::{memory_of, open};
 use super::{Output, strict_status};
-use crate::dump::document::{add_fact_lines, add_machine};
-use crate::dump::summary::{Facts, Value, add_domains, add_facts, add_units};
 use crate::image::{PlacedTable, write_image};
 use crate::image_reader::MemoryImage;
 use crate::input::entries::{Entry, Place, entries_of, entries_of_files, print_name};
@@ -15,6 +13,8 @@ use crate::input::machine::letters_of;
 use crate::input::status::Status;
 use crate::rattle::Vec;
 use crate::rattle::alloc::{AllocError, Global};
+use crate::summary::document::{add_fact_lines, add_machine};
+use crate::summary::machine::{Facts, Value, add_domains, add_facts, add_units};
 use crate::walk::language::cut_at;
 use crate::walk::out::Out;
 

@@ -4,10 +4,10 @@
 use super::Output;
 use crate::check::advice::advice_of;
 use crate::check::rules::rules;
-use crate::dump::document::Document;
 use crate::input::errors::Stop;
 use crate::input::judgement::Rule;
 use crate::json::Token;
+use crate::summary::document::Document;
 use crate::walk::out::Out;
 
 /// Adds a rule.

@@ -5,12 +5,12 @@
 
 use super::Output;
 use crate::check::rules::rules;
-use crate::dump::document::Document;
 use crate::input::entries::{Entry, Place, own_signature};
 use crate::input::judgement::{Finding, Judgement, Rule, Severity};
 use crate::json::Token;
 use crate::rattle::Pieces;
 use crate::rattle::alloc::AllocError;
+use crate::summary::document::Document;
 use crate::walk::fields::print_text;
 use crate::walk::language::next_word;
 use crate::walk::out::Out;

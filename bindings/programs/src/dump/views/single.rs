@@ -2,12 +2,12 @@
 //! Single values of tables.
 
 use super::Output;
-use crate::dump::document::Document;
 use crate::dump::wanted::{Finder, Wanted};
 use crate::input::entries::Entry;
 use crate::input::errors::{Log, Stop, fail};
 use crate::json::Token;
 use crate::rattle::alloc::Global;
+use crate::summary::document::Document;
 use crate::walk::aml::{Ends, Object};
 use crate::walk::fields::{print_meaning, print_text, print_value};
 use crate::walk::language::Meaning;

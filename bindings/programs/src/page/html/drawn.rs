@@ -83,7 +83,8 @@ pub(super) fn print_line(sheet: &Sheet<'_>, structure: usize, line: &'static str
     }
 }
 
-/// Prints the fields of a name that a structure has after its type and its length, as the name has it.
+/// Prints the fields of a structure that have a name, after its type and its length, with `/` between them: each as the
+/// name asks, which may begin with `%` or `#`.
 fn print_fields(sheet: &Sheet<'_>, structure: usize, name: &'static str, out: &mut Out) {
     let wanted = name.trim_start_matches(['%', '#']);
     let mut count = 0usize;

@@ -112,19 +112,24 @@ fn first_words(text: &str, most: usize) -> &str {
     }
 }
 
-/// Prints bytes as characters of a text or of an attribute in double quotes, in HTML or XML, those that aren't
-/// printable ASCII as `.`.
+/// Prints a byte as `print_escaped` does.
+fn print_byte(byte: u8, out: &mut Out) {
+    match byte {
+        b'&' => out.text("&amp;"),
+        b'<' => out.text("&lt;"),
+        b'>' => out.text("&gt;"),
+        b'"' => out.text("&quot;"),
+        b'\'' => out.text("&#39;"),
+        0x20..=0x7e => out.bytes(&[byte]),
+        _ => out.text("."),
+    }
+}
+
+/// Prints bytes as characters of a text or of an attribute in quotes, in HTML or XML: `&`, `<`, `>` and the quotes as
+/// entities, and those that aren't printable ASCII as `.`. If memory runs out, only the first ones are printed.
 pub fn print_escaped(bytes: &[u8], out: &mut Out) {
     for byte in bytes {
-        match *byte {
-            b'&' => out.text("&amp;"),
-            b'<' => out.text("&lt;"),
-            b'>' => out.text("&gt;"),
-            b'"' => out.text("&quot;"),
-            b'\'' => out.text("&#39;"),
-            0x20..=0x7e => out.bytes(&[*byte]),
-            _ => out.text("."),
-        }
+        print_byte(*byte, out);
     }
 }
 

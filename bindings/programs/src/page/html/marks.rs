@@ -11,7 +11,7 @@ use crate::rattle::alloc::{AllocError, Global};
 #[derive(Clone, Copy)]
 pub(super) enum Change {
     Same,
-    /// The first one hasn't got it, or the structure of this number that it is in, if that isn't 0.
+    /// The first input lacks it, or, if this number isn't 0, the structure of this number that it is in.
     Added(usize),
     /// The first one has the field of this number in its place.
     From(usize),
@@ -85,7 +85,7 @@ impl Marks {
         Ok(())
     }
 
-    /// Marks the fields of a structure that the first table hasn't got.
+    /// Marks the fields of a structure that the first table lacks.
     fn add_structure(&mut self, side: Side<'_>, part: usize) {
         for place in side.places(part) {
             self.change(place, Change::Added(part));

@@ -18,8 +18,9 @@ const GAP: u64 = 3;
 pub(super) struct Tile {
     /// How many boxes like the next one are beside each other.
     pub(super) columns: u64,
-    /// What is written in the next one, if it fits, and what is said of it under the pointer. They are escaped.
+    /// The next box's text, escaped, which is written in it if it fits.
     pub(super) text: Out,
+    /// The next box's title, escaped, which is shown under the pointer.
     pub(super) title: Out,
     boxes: Out,
     x: u64,

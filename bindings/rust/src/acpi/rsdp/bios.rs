@@ -5,19 +5,22 @@ use super::{RawBytes, Rsdp, map_rsdp};
 use crate::base::bytes::{filled_in, u16_in};
 use crate::base::{AcpiError, AcpiResult, Lender, PhysicalMapping};
 
-/// A range of physical addresses; `end` is the first after it.
+/// An area of physical memory in which firmware may put the RSDP (section 5.2.5.1).
 #[derive(Clone, Copy)]
-pub(crate) struct Area {
-    pub(crate) start: u64,
-    pub(crate) end: u64,
+pub struct Area {
+    /// Its first address.
+    pub start: u64,
+    /// The first address after it.
+    pub end: u64,
 }
 
 /// The read-only memory of the BIOS, which is searched first.
 const FIRST_AREA: Area = Area { start: 0xe0000, end: 0x100000 };
 
-/// The area that is searched second: the first KiB of the extended BIOS data area (EBDA), whose address is
-/// 16 times the word; if that area can't be there, all of the memory that it may be in.
-fn second_area(word: u16) -> Area {
+/// The area that is searched after 0xe0000..0x100000, by the word at 0x40e: the first KiB of the extended
+/// BIOS data area (EBDA), whose address is 16 times the word; if that is under 0x80000, or 0x9ffff or above,
+/// all of the memory that it may be in, 0x80000..0xa0000 (section 5.2.5.1).
+pub fn second_area(word: u16) -> Area {
     let start = 16 * word as u64;
     if start >= 0x80000 && start < 0x9ffff {
         Area { start, end: start + 1024 }

@@ -135,12 +135,12 @@ impl<'h, H: Lender> AcpiTables<'h, H> {
     /// firmware and by the system, so a copy of it is not a FACS.
     pub fn ranges(&self) -> TableRanges<'_, 'h, H> {
         let root = AddressRange { address: self.root_address(), length: self.root_length() as u64 };
-        let (dsdt, facs) = self.led();
+        let (dsdt, facs) = self.dsdt_and_facs();
         TableRanges::new(self.root.handler(), root, self.pointers(), dsdt, facs)
     }
 
     /// Where the DSDT and the FACS lie that the first valid FADT leads to.
-    fn led(&self) -> (Option<AddressRange>, Option<AddressRange>) {
+    fn dsdt_and_facs(&self) -> (Option<AddressRange>, Option<AddressRange>) {
         match self.find_fadt() {
             Ok(fadt) => (self.dsdt_place(&fadt).ok(), self.facs_place(&fadt).ok()),
             Err(_) => (None, None),

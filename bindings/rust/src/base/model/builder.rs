@@ -92,7 +92,7 @@ impl<A: Allocator> ModelBuilder<A> {
     /// What `add_entry` does, for an entry of any type, out of line.
     #[inline(never)]
     fn add_other(&mut self, entry: &[u8]) {
-        if let Some(Ok(item)) = MadtItem::said(entry) {
+        if let Some(Ok(item)) = MadtItem::of_entry(entry) {
             self.add(item);
         }
     }

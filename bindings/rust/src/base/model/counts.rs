@@ -46,10 +46,10 @@ impl Counts {
         let mut rest = skip(table, Madt::MIN_LENGTH);
         while let Some((entry, others)) = split_front(&MADT_GRAMMAR, rest) {
             rest = others;
-            let Some(said) = MadtItem::said(entry) else {
+            let Some(of_entry) = MadtItem::of_entry(entry) else {
                 continue;
             };
-            let item = match said {
+            let item = match of_entry {
                 Ok(item) => item,
                 Err(fault) => return Err(AcpiError::InvalidMadt(fault)),
             };

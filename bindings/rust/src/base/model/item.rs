@@ -48,7 +48,7 @@ impl MadtItem {
     /// `MpsIntiInvalidPolarity` or else `MpsIntiInvalidTriggerMode`, and for other inputs than LINT0 and
     /// LINT1 with `InvalidLocalNmiLine`.
     #[inline(always)]
-    pub(super) fn said(entry: &[u8]) -> Option<Result<MadtItem, MadtError>> {
+    pub(super) fn of_entry(entry: &[u8]) -> Option<Result<MadtItem, MadtError>> {
         match entry[0] {
             0x00 => Some(Ok(processor_of(&LocalApicEntry::read(entry)))),
             0x01 => {
@@ -95,7 +95,7 @@ impl MadtItem {
     ///
     /// Panics if the entry is shorter than one of its type.
     pub fn fault(entry: &[u8]) -> Option<MadtError> {
-        match MadtItem::said(entry) {
+        match MadtItem::of_entry(entry) {
             Some(Err(fault)) => Some(fault),
             _ => None,
         }

@@ -45,7 +45,7 @@ impl Iterator for MadtItems<'_> {
     fn next(&mut self) -> Option<MadtItem> {
         while let Some((entry, others)) = split_front(&MADT_GRAMMAR, self.rest) {
             self.rest = others;
-            if let Some(Ok(item)) = MadtItem::said(entry) {
+            if let Some(Ok(item)) = MadtItem::of_entry(entry) {
                 return Some(item);
             }
         }

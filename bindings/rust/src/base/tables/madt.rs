@@ -4,13 +4,14 @@
 mod apic;
 mod entry;
 mod gic;
+mod readings;
 mod sapic;
 mod wakeup;
 mod walk;
 
 use crate::alloc::Allocator;
 use crate::alloc::TryClone;
-use crate::base::bytes::{has_bit, u32_in};
+use crate::base::bytes::has_bit;
 pub use crate::base::error::MadtError;
 use crate::base::error::{AcpiError, AcpiResult};
 use crate::base::memory::handler::{Lender, PhysicalRecord};
@@ -25,6 +26,7 @@ pub use apic::{
 };
 pub use entry::{EntryHeader, MADT_GRAMMAR, MadtEntry};
 pub use gic::{GicInterruptTranslationServiceEntry, GicMsiFrameEntry, GicRedistributorEntry, GiccEntry, GicdEntry};
+use readings::madt_at;
 pub use sapic::{IoSapicEntry, LocalSapicEntry, PlatformInterruptSourceEntry};
 pub use wakeup::{MpProtectedModeWakeupCommand, MultiprocessorWakeupEntry, MultiprocessorWakeupMailbox};
 pub use walk::MadtEntryIter;
@@ -47,11 +49,7 @@ impl PhysicalRecord for Madt {
 
     #[inline(always)]
     fn read(bytes: &[u8]) -> Self {
-        Madt {
-            header: SdtHeader::read(bytes),
-            local_apic_address: u32_in(bytes, 36), // Local Interrupt Controller Address
-            flags: u32_in(bytes, 40),              // Flags (Multiple APIC Flags)
-        }
+        madt_at(bytes)
     }
 }
 

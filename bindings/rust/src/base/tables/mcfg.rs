@@ -3,13 +3,15 @@
 //! Specification; ACPI 6.4, section 5.2.6, reserves the signature).
 
 mod ecam;
+mod readings;
 
-use crate::base::bytes::{field_in, skip, u8_in, u16_in};
+use crate::base::bytes::skip;
 use crate::base::memory::handler::{Lender, PhysicalRecord};
 use crate::base::memory::mapping::PhysicalMapping;
 use crate::base::table::SdtTable;
 use crate::base::table::header::SdtHeader;
 use crate::base::table::signature::Signature;
+use readings::{mcfg_at, mcfg_entry_at};
 
 /// The MCFG: regions of memory, each with the configuration space of some PCI buses. Section 5.2.6 reserves
 /// its signature, and its layout is the PCI Firmware Specification's (section 4.1.2). Its entries are after
@@ -23,7 +25,7 @@ impl PhysicalRecord for Mcfg {
 
     #[inline(always)]
     fn read(bytes: &[u8]) -> Self {
-        Mcfg { header: SdtHeader::read(bytes) }
+        mcfg_at(bytes)
     }
 }
 
@@ -57,12 +59,7 @@ impl PhysicalRecord for McfgEntry {
 
     #[inline(always)]
     fn read(bytes: &[u8]) -> Self {
-        McfgEntry {
-            base_address: field_in(bytes, 0, 8), // Base Address
-            pci_segment_group: u16_in(bytes, 8), // PCI Segment Group Number
-            bus_number_start: u8_in(bytes, 10),  // Start Bus Number
-            bus_number_end: u8_in(bytes, 11),    // End Bus Number
-        }
+        mcfg_entry_at(bytes)
     }
 }
 

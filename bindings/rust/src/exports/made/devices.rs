@@ -1,13 +1,14 @@
 // Made by scripts/erase of crates/acpi_c/src/made/devices.rt, where it is proved.
 //! Made by scripts/exports of include/zacpi.h, which has what each call does.
 
-use crate::lists::answer::answer;
-use crate::lists::console::console;
-use crate::lists::devices::{graphic, hpet, hpets, timer};
-use crate::lists::facs::facs;
-use crate::lists::fixed::fixed;
-use crate::lists::fixed_records::{Console, FixedHardware};
-use crate::lists::records::{BootGraphic, Facs, HpetInfo, PmTimer, Signature, Source};
+use crate::c_devices::console::console;
+use crate::c_devices::devices::{graphic, hpet, hpets, timer};
+use crate::c_devices::fixed::fixed;
+use crate::c_devices::fixed::records::{Console, FixedHardware};
+use crate::c_devices::records::{BootGraphic, HpetInfo, PmTimer};
+use crate::c_lib::answer::answer;
+use crate::c_lib::facs::facs;
+use crate::c_lib::records::{Facs, Signature, Source};
 
 /// Returns the fixed hardware of the FADT.
 #[unsafe(no_mangle)]

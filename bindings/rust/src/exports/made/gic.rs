@@ -1,10 +1,10 @@
 // Made by scripts/erase of crates/acpi_c/src/made/gic.rt, where it is proved.
 //! Made by scripts/exports of include/zacpi.h, which has what each call does.
 
-use crate::lists::answer::answer;
-use crate::lists::arm_records::{GicCpuInterface, GicDistributor, GicMsiFrame, GicTranslationService};
-use crate::lists::gic::{distributor, parts, parts_from};
-use crate::lists::records::{Range, Signature, Source};
+use crate::c_interrupts::arm::gic::{distributor, parts, parts_from};
+use crate::c_interrupts::arm::records::{GicCpuInterface, GicDistributor, GicMsiFrame, GicTranslationService};
+use crate::c_lib::answer::answer;
+use crate::c_lib::records::{Range, Signature, Source};
 
 /// Returns the distributor of the first GICD.
 #[unsafe(no_mangle)]

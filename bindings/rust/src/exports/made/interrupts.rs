@@ -1,20 +1,20 @@
 // Made by scripts/erase of crates/acpi_c/src/made/interrupts.rt, where it is proved.
 //! Made by scripts/exports of include/zacpi.h, which has what each call does.
 
-use crate::lists::answer::answer;
-use crate::lists::apics::{entries, mailbox, processors, processors_from};
-use crate::lists::entry_faults::EntryFault;
-use crate::lists::interrupt_records::{
+use crate::c_interrupts::apics::local_apic::local_apic;
+use crate::c_interrupts::apics::model::model;
+use crate::c_interrupts::apics::platform::platform;
+use crate::c_interrupts::apics::records::{
     Interrupt, InterruptModel, InterruptSourceOverride, IoApic, IoApicPin, IsaInterrupts, LocalApic, NmiLine,
     NmiSource, PlatformLists, Processor,
 };
-use crate::lists::isa_list::isa_interrupts;
-use crate::lists::local_apic::local_apic;
-use crate::lists::madt_faults::madt_faults;
-use crate::lists::platform::platform;
-use crate::lists::processors::model;
-use crate::lists::records::{Signature, Source};
-use crate::lists::routes::{isa, pin, sci};
+use crate::c_interrupts::apics::{entries, mailbox, processors, processors_from};
+use crate::c_interrupts::madt_faults::madt_faults;
+use crate::c_interrupts::routes::isa_list::isa_interrupts;
+use crate::c_interrupts::routes::{isa, pin, sci};
+use crate::c_lib::answer::answer;
+use crate::c_lib::entry_faults::EntryFault;
+use crate::c_lib::records::{Signature, Source};
 
 /// Returns which controllers interrupts come to, and how many items the lists of zacpi_get_platform have.
 #[unsafe(no_mangle)]

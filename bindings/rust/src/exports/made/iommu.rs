@@ -1,17 +1,17 @@
 // Made by scripts/erase of crates/acpi_c/src/made/iommu.rt, where it is proved.
 //! Made by scripts/exports of include/zacpi.h, which has what each call does.
 
-use crate::lists::answer::answer;
-use crate::lists::entry_faults::EntryFault;
-use crate::lists::iommu::{dmar_flags, dmar_hpet, dmar_io_apic, dmar_reserved, dmar_unit, ivrs_memory, ivrs_unit};
-use crate::lists::iommu_faults::{dmar_faults, ivrs_faults};
-use crate::lists::iommu_lists::{dmar_scopes, dmar_structure_scopes, ivrs_entries};
-use crate::lists::iommu_records::{
+use crate::c_devices::iommu::faults::{dmar_faults, ivrs_faults};
+use crate::c_devices::iommu::lists::{dmar_scopes, dmar_structure_scopes, ivrs_entries};
+use crate::c_devices::iommu::records::{
     DmarAffinity, DmarFlags, DmarReserved, DmarRootPorts, DmarScope, DmarSource, DmarUnit, Hop, IvrsDevice, IvrsEntry,
     IvrsMemory, IvrsUnit,
 };
-use crate::lists::iommu_regions::{dmar_structures, ivrs_blocks};
-use crate::lists::records::{Signature, Source};
+use crate::c_devices::iommu::regions::{dmar_structures, ivrs_blocks};
+use crate::c_devices::iommu::{dmar_flags, dmar_hpet, dmar_io_apic, dmar_reserved, dmar_unit, ivrs_memory, ivrs_unit};
+use crate::c_lib::answer::answer;
+use crate::c_lib::entry_faults::EntryFault;
+use crate::c_lib::records::{Signature, Source};
 
 /// Returns what the DMAR states for all units (section 8.1).
 #[unsafe(no_mangle)]

@@ -1,10 +1,10 @@
 // Made by scripts/erase of crates/acpi_c/src/made/memory.rt, where it is proved.
 //! Made by scripts/exports of include/zacpi.h, which has what each call does.
 
-use crate::lists::answer::answer_plain;
-use crate::lists::clip::clip_ranges;
-use crate::lists::records::{Place, Range};
-use crate::lists::regions::{Region, locate};
+use crate::c_lib::answer::answer_plain;
+use crate::c_lib::clip::clip_ranges;
+use crate::c_lib::records::{Place, Range};
+use crate::c_lib::regions::{Region, locate};
 
 /// Lists the ranges to make regions of, from ranges in any order: sorted, joined where they overlap or touch, clipped
 /// to `window`, without what is in `without` (the kernel's image, and whatever is written while calls run), and none

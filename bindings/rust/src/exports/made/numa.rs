@@ -1,13 +1,13 @@
 // Made by scripts/erase of crates/acpi_c/src/made/numa.rt, where it is proved.
 //! Made by scripts/exports of include/zacpi.h, which has what each call does.
 
-use crate::lists::affinities::{srat_entries, srat_entries_from};
-use crate::lists::answer::answer;
-use crate::lists::entry_faults::EntryFault;
-use crate::lists::numa::{distance, domain_of_address, domain_of_apic, domain_of_processor, localities};
-use crate::lists::numa_records::{GenericInitiator, ItsAffinity, Localities, MemoryAffinity, ProcessorAffinity};
-use crate::lists::records::{Signature, Source};
-use crate::lists::srat_faults::srat_faults;
+use crate::c_devices::numa::affinities::{srat_entries, srat_entries_from};
+use crate::c_devices::numa::faults::srat_faults;
+use crate::c_devices::numa::records::{GenericInitiator, ItsAffinity, Localities, MemoryAffinity, ProcessorAffinity};
+use crate::c_devices::numa::{distance, domain_of_address, domain_of_apic, domain_of_processor, localities};
+use crate::c_lib::answer::answer;
+use crate::c_lib::entry_faults::EntryFault;
+use crate::c_lib::records::{Signature, Source};
 
 /// Lists the memory that the SRAT puts into domains: its Memory Affinity entries that are enabled, have a byte, and end
 /// below 2^64, up to where no entry begins.

@@ -1,10 +1,11 @@
 // Made by scripts/erase of crates/acpi_c/src/made/pci.rt, where it is proved.
 //! Made by scripts/exports of include/zacpi.h, which has what each call does.
 
-use crate::lists::answer::answer;
-use crate::lists::fixed_records::EcamRange;
-use crate::lists::pci::{ecam_address, ecam_ranges, pci_regions};
-use crate::lists::records::{PciRegion, Signature, Source};
+use crate::c_devices::fixed::records::EcamRange;
+use crate::c_devices::pci::{ecam_address, ecam_ranges, pci_regions};
+use crate::c_devices::records::PciRegion;
+use crate::c_lib::answer::answer;
+use crate::c_lib::records::{Signature, Source};
 
 /// Lists the regions of PCI configuration space of the MCFG: 16 bytes for each from byte 44 on; fewer at the end are
 /// none.

@@ -1,10 +1,10 @@
 // Made by scripts/erase of crates/acpi_c/src/made/power.rt, where it is proved.
 //! Made by scripts/exports of include/zacpi.h, which has what each call does.
 
-use crate::lists::answer::answer;
-use crate::lists::power::{enable_plan, power_off_plan, reset_plan, sleep_plan, sleep_types};
-use crate::lists::power_records::{Plan, SleepTypes};
-use crate::lists::records::{Signature, Source};
+use crate::c_devices::power::records::{Plan, SleepTypes};
+use crate::c_devices::power::{enable_plan, power_off_plan, reset_plan, sleep_plan, sleep_types};
+use crate::c_lib::answer::answer;
+use crate::c_lib::records::{Signature, Source};
 
 /// Returns the sleep types of S0 to S5, each as a byte, from the first of the DSDT and the SSDTs that contains the
 /// state's package.

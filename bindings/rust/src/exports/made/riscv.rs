@@ -1,9 +1,9 @@
 // Made by scripts/erase of crates/acpi_c/src/made/riscv.rt, where it is proved.
 //! Made by scripts/exports of include/zacpi.h, which has what each call does.
 
-use crate::lists::answer::answer;
-use crate::lists::records::{Signature, Source};
-use crate::lists::riscv::{riscv_entries, riscv_entries_from};
+use crate::c_interrupts::riscv::{riscv_entries, riscv_entries_from};
+use crate::c_lib::answer::answer;
+use crate::c_lib::records::{Signature, Source};
 use crate::riscv::{Aplic, Imsic, Plic, Rintc};
 
 /// Each lists the MADT's entries of one Type, up to where none begins, since Length is above the bytes left or below

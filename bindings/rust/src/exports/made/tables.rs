@@ -1,17 +1,17 @@
 // Made by scripts/erase of crates/acpi_c/src/made/tables.rt, where it is proved.
 //! Made by scripts/exports of include/zacpi.h, which has what each call does.
 
-use crate::lists::answer::{answer, answer_plain};
-use crate::lists::copied::start_of_rsdp;
-use crate::lists::entries::table_entries;
-use crate::lists::faults::faults;
-use crate::lists::members::members;
-use crate::lists::missing::missing;
-use crate::lists::opening::root;
-use crate::lists::records::{AmlTable, Entry, Fault, Member, Range, Root, Rsdp, Signature, Source, Table, Walk};
-use crate::lists::rsdp::rsdp;
-use crate::lists::tables::{dsdt, find, ssdts, table_there, tables};
-use crate::lists::walks::{nth, ranges};
+use crate::c_lib::answer::{answer, answer_plain};
+use crate::c_lib::copied::start_of_rsdp;
+use crate::c_lib::entries::table_entries;
+use crate::c_lib::faults::faults;
+use crate::c_lib::members::members;
+use crate::c_lib::missing::missing;
+use crate::c_lib::opening::root;
+use crate::c_lib::records::{AmlTable, Entry, Fault, Member, Range, Root, Rsdp, Signature, Source, Table, Walk};
+use crate::c_lib::rsdp::rsdp;
+use crate::c_lib::tables::{dsdt, find, ssdts, table_there, tables};
+use crate::c_lib::walks::{nth, ranges};
 
 /// Makes the root table that a copy of the RSDP points to (multiboot2's tags 14 and 15) the start of `source`, whose
 /// regions and `accept` stay.

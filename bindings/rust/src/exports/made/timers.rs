@@ -1,12 +1,12 @@
 // Made by scripts/erase of crates/acpi_c/src/made/timers.rt, where it is proved.
 //! Made by scripts/exports of include/zacpi.h, which has what each call does.
 
-use crate::lists::answer::answer;
-use crate::lists::arm_records::{ArmTimers, GtFrame, Watchdog};
-use crate::lists::arm_timers::{arm_timers, frames, watchdogs};
-use crate::lists::entry_faults::EntryFault;
-use crate::lists::gtdt_faults::gtdt_faults;
-use crate::lists::records::{Signature, Source};
+use crate::c_interrupts::arm::records::{ArmTimers, GtFrame, Watchdog};
+use crate::c_interrupts::arm::timer_faults::gtdt_faults;
+use crate::c_interrupts::arm::timers::{arm_timers, frames, watchdogs};
+use crate::c_lib::answer::answer;
+use crate::c_lib::entry_faults::EntryFault;
+use crate::c_lib::records::{Signature, Source};
 
 /// Returns the timers of every processor.
 #[unsafe(no_mangle)]

@@ -1,18 +1,21 @@
 // Made by scripts/erase of crates/acpi_c/src/made/writing.rt, where it is proved.
 //! Made by scripts/exports of include/zacpi.h, which has what each call does.
 
-use crate::lists::answer::answer_plain;
-use crate::lists::fixed_records::FixedHardware;
-use crate::lists::records::{BootGraphic, HpetInfo, PciRegion, Signature};
-use crate::lists::writing::{
-    Contents, dsdt_place, facs_place, tables_size, write_contents, write_dsdt, write_facs, write_hardware, write_rhct,
-    write_riscv_madt, write_rsdp, write_rsdt, write_slit, write_ssdt, write_table, write_tables,
-    write_tables_without_rsdp, write_xsdt, written,
+use crate::c_devices::fixed::records::FixedHardware;
+use crate::c_devices::records::{BootGraphic, HpetInfo, PciRegion};
+use crate::c_devices::written_records::{FacsContents, SpcrContents, SratContents};
+use crate::c_interrupts::written_records::{GicContents, GtdtContents, MadtContents};
+use crate::c_lib::answer::answer_plain;
+use crate::c_lib::records::Signature;
+use crate::c_machine::machine::{
+    Contents, dsdt_place, facs_place, tables_size, write_contents, write_hardware, write_tables,
+    write_tables_without_rsdp,
 };
-use crate::lists::written_records::{
-    AmlContents, FacsContents, GicContents, GtdtContents, Machine, MadtContents, RhctContents, RiscvContents,
-    SpcrContents, SratContents, TableIds,
+use crate::c_machine::writing::{
+    write_dsdt, write_facs, write_rhct, write_riscv_madt, write_rsdp, write_rsdt, write_slit, write_ssdt, write_table,
+    write_xsdt, written,
 };
+use crate::c_machine::written_records::{AmlContents, Machine, RhctContents, RiscvContents, TableIds};
 
 /// Writes an RSDP of revision 2 that points to an XSDT (section 5.2.5.3): 36 bytes.
 #[unsafe(no_mangle)]

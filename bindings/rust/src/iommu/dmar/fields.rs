@@ -1,7 +1,11 @@
 // Made by scripts/erase of crates/acpi_iommu/src/dmar/fields.rt, where it is proved.
 //! What the structures of a DMAR contain in their fixed bytes, by their types (sections 8.3 to 8.9).
 
+mod readings;
+
 use crate::base::bytes::{bits, field, has_bit};
+use readings::{andd_at, atsr_at, rhsa_at, satc_at, sidp_at};
+pub(super) use readings::{drhd_at, rmrr_at};
 
 /// DMA Remapping Hardware Unit Definition (DRHD, section 8.3): a unit that remaps.
 #[derive(Clone, Copy, Debug)]
@@ -90,16 +94,6 @@ pub enum DmarFields {
 }
 
 impl Drhd {
-    /// The fields in a structure's bytes.
-    pub(super) fn read(bytes: &[u8]) -> Self {
-        Drhd {
-            flags: field(bytes, 4, 1) as u8, // Flags
-            size: field(bytes, 5, 1) as u8,  // Size
-            segment: segment_of(bytes),
-            register_base: field(bytes, 8, 8), // Register Base Address
-        }
-    }
-
     /// INCLUDE_PCI_ALL (bit 0 of the flags): whether the unit remaps all devices of its segment that no other unit
     /// names.
     pub fn includes_pci_all(&self) -> bool {
@@ -113,15 +107,6 @@ impl Drhd {
 }
 
 impl Rmrr {
-    /// The fields in a structure's bytes.
-    pub(super) fn read(bytes: &[u8]) -> Self {
-        Rmrr {
-            segment: segment_of(bytes),
-            base: field(bytes, 8, 8),   // Reserved Memory Region Base Address
-            limit: field(bytes, 16, 8), // Reserved Memory Region Limit Address
-        }
-    }
-
     /// Whether the last byte isn't before the first.
     pub(super) fn is_range(&self) -> bool {
         self.base <= self.limit
@@ -160,24 +145,13 @@ pub(super) fn segment_of(bytes: &[u8]) -> u16 {
 /// What a structure's fixed bytes contain, or `None` if its type isn't one of 0 to 6.
 pub(super) fn fields_of(bytes: &[u8]) -> Option<DmarFields> {
     match kind_of(bytes) {
-        0 => Some(DmarFields::Drhd(Drhd::read(bytes))),
-        1 => Some(DmarFields::Rmrr(Rmrr::read(bytes))),
-        2 => Some(DmarFields::Atsr(Atsr {
-            flags: field(bytes, 4, 1) as u8, // Flags
-            segment: segment_of(bytes),
-        })),
-        3 => Some(DmarFields::Rhsa(Rhsa {
-            register_base: field(bytes, 8, 8),  // Register Base Address
-            domain: field(bytes, 16, 4) as u32, // Proximity Domain
-        })),
-        4 => Some(DmarFields::Andd(Andd {
-            device_number: field(bytes, 7, 1) as u8, // ACPI Device Number
-        })),
-        5 => Some(DmarFields::Satc(Satc {
-            flags: field(bytes, 4, 1) as u8, // Flags
-            segment: segment_of(bytes),
-        })),
-        6 => Some(DmarFields::Sidp(Sidp { segment: segment_of(bytes) })),
+        0 => Some(DmarFields::Drhd(drhd_at(bytes))),
+        1 => Some(DmarFields::Rmrr(rmrr_at(bytes))),
+        2 => Some(DmarFields::Atsr(atsr_at(bytes))),
+        3 => Some(DmarFields::Rhsa(rhsa_at(bytes))),
+        4 => Some(DmarFields::Andd(andd_at(bytes))),
+        5 => Some(DmarFields::Satc(satc_at(bytes))),
+        6 => Some(DmarFields::Sidp(sidp_at(bytes))),
         _ => None,
     }
 }

@@ -2,7 +2,7 @@
 //! Device scopes: which devices a structure of a DMAR names (section 8.3.1).
 
 use crate::base::bytes::{field, skip};
-use crate::iommu::pieces::{PieceIter, PieceKind, said};
+use crate::iommu::pieces::{PieceIter, PieceKind, valid_length};
 
 /// A step from a bus to a device on it (section 8.3.1). C passes it as these two bytes.
 #[repr(C)]
@@ -132,7 +132,7 @@ impl<'a> PieceKind<'a> for Scopes {
     type Piece = DeviceScope<'a>;
 
     fn size_at(bytes: &[u8]) -> Option<usize> {
-        said(6, field(bytes, 1, 1) as usize) // Length
+        valid_length(6, field(bytes, 1, 1) as usize) // Length
     }
 
     fn piece(bytes: &'a [u8]) -> DeviceScope<'a> {

@@ -2,13 +2,13 @@
 //! One structure of a DMAR (section 8.2).
 
 use super::Dmar;
-use super::fields::{DmarFields, Drhd, Rmrr, fields_of, kind_of, segment_of};
+use super::fields::{DmarFields, Drhd, Rmrr, drhd_at, fields_of, kind_of, rmrr_at, segment_of};
 use super::scope::{DeviceScopeIter, Hop};
 use super::units::UnitSource;
 use crate::base::PhysicalRecord;
 use crate::base::bytes::{field, skip, text_of};
 use crate::iommu::error::IommuError;
-use crate::iommu::pieces::{PieceIter, PieceKind, said};
+use crate::iommu::pieces::{PieceIter, PieceKind, valid_length};
 use crate::iommu::texts::up_to_zero;
 
 /// A structure of a DMAR (section 8.2).
@@ -72,7 +72,7 @@ impl<'a> DmarStructure<'a> {
         if !self.has_whole_scopes() {
             return Some(IommuError::InvalidStructureLength);
         }
-        if self.kind() == 1 && !Rmrr::read(self.bytes).is_range() {
+        if self.kind() == 1 && !rmrr_at(self.bytes).is_range() {
             return Some(IommuError::InvalidMemoryRange);
         }
         None
@@ -80,12 +80,12 @@ impl<'a> DmarStructure<'a> {
 
     /// The unit, if this is a DRHD.
     pub fn drhd(&self) -> Option<Drhd> {
-        if self.kind() == 0 { Some(Drhd::read(self.bytes)) } else { None }
+        if self.kind() == 0 { Some(drhd_at(self.bytes)) } else { None }
     }
 
     /// The unit, if it is one of a segment.
     pub(super) fn unit_of(&self, segment: u16) -> Option<Drhd> {
-        if self.kind() == 0 && segment_of(self.bytes) == segment { Some(Drhd::read(self.bytes)) } else { None }
+        if self.kind() == 0 && segment_of(self.bytes) == segment { Some(drhd_at(self.bytes)) } else { None }
     }
 
     /// What the first scope of a type and an Enumeration ID contains, if this is a unit that has one.
@@ -96,11 +96,7 @@ impl<'a> DmarStructure<'a> {
         let mut scopes = self.scopes();
         while let Some(scope) = scopes.next() {
             if scope.is_numbered(kind, id) {
-                return Some(UnitSource {
-                    unit: Drhd::read(self.bytes),
-                    bus: scope.start_bus(),
-                    hop: scope.last_hop(),
-                });
+                return Some(UnitSource { unit: drhd_at(self.bytes), bus: scope.start_bus(), hop: scope.last_hop() });
             }
         }
         None
@@ -109,7 +105,7 @@ impl<'a> DmarStructure<'a> {
     /// The range, if it is one of a segment for the device that these hops reach from a bus.
     pub(super) fn reserved_for(&self, segment: u16, bus: u8, hops: &[Hop]) -> Option<Rmrr> {
         if self.kind() == 1 && segment_of(self.bytes) == segment && self.names(bus, hops) {
-            Some(Rmrr::read(self.bytes))
+            Some(rmrr_at(self.bytes))
         } else {
             None
         }
@@ -146,7 +142,7 @@ impl<'a> PieceKind<'a> for Structures {
 
     fn size_at(bytes: &[u8]) -> Option<usize> {
         let length = field(bytes, 2, 2) as usize; // Length
-        said(least_of(kind_of(bytes)), length)
+        valid_length(least_of(kind_of(bytes)), length)
     }
 
     fn piece(bytes: &'a [u8]) -> DmarStructure<'a> {

@@ -1,13 +1,16 @@
 // Made by scripts/erase of crates/acpi_iommu/src/ivrs/block.rt, where it is proved.
 //! The blocks of an IVRS, one at a time (section 5.2).
 
+mod readings;
+
 use super::Ivrs;
 use super::blocks::DeviceUnit;
 use super::entry::DeviceEntryIter;
 use crate::base::bytes::{field, skip};
 use crate::base::{AddressRange, PhysicalRecord};
 use crate::iommu::error::IommuError;
-use crate::iommu::pieces::{PieceIter, PieceKind, said};
+use crate::iommu::pieces::{PieceIter, PieceKind, valid_length};
+use readings::{ivhd_at, ivmd_at};
 
 /// I/O Virtualization Hardware Definition (IVHD, section 5.2): a unit that remaps.
 #[derive(Clone, Copy, Debug)]
@@ -86,41 +89,16 @@ fn least_of(kind: u8) -> usize {
     }
 }
 
-impl Ivhd {
-    /// The fields in a block's bytes.
-    fn read(bytes: &[u8]) -> Self {
-        let kind = kind_of(bytes);
-        Ivhd {
-            kind,
-            flags: field(bytes, 1, 1) as u8,              // Flags
-            device_id: field(bytes, 4, 2) as u16,         // DeviceID
-            capability_offset: field(bytes, 6, 2) as u16, // Capability Offset
-            base: field(bytes, 8, 8),                     // IOMMU Base Address
-            segment: field(bytes, 16, 2) as u16,          // PCI Segment Group
-            info: field(bytes, 18, 2) as u16,             // IOMMU Info
-            features: field(bytes, 20, 4) as u32,         // IOMMU Feature Reporting, IOMMU Attributes
-            extended_features: if kind == 0x10 {
-                None
-            } else {
-                Some(field(bytes, 24, 8)) // EFR Register Image
-            },
-        }
+/// EFR Register Image, that of the extended features; type 0x10 has none.
+fn extended_features_of(block: &[u8]) -> Option<u64> {
+    if kind_of(block) == 0x10 {
+        None
+    } else {
+        Some(field(block, 24, 8)) // EFR Register Image
     }
 }
 
 impl Ivmd {
-    /// The fields in a block's bytes.
-    fn read(bytes: &[u8]) -> Self {
-        Ivmd {
-            kind: kind_of(bytes),
-            flags: field(bytes, 1, 1) as u8,      // Flags
-            device_id: field(bytes, 4, 2) as u16, // DeviceID
-            auxiliary: field(bytes, 6, 2) as u16, // Auxiliary Data
-            start: field(bytes, 16, 8),           // IVMD start address
-            length: field(bytes, 24, 8),          // IVMD memory block length
-        }
-    }
-
     /// Whether the memory ends below 2^64.
     pub(super) fn ends_below(&self) -> bool {
         AddressRange::new(self.start, self.length).fits()
@@ -148,9 +126,9 @@ impl<'a> IvrsBlock<'a> {
     pub fn fields(&self) -> Option<IvrsFields> {
         let kind = self.kind();
         if is_ivhd(kind) {
-            Some(IvrsFields::Ivhd(Ivhd::read(self.bytes)))
+            Some(IvrsFields::Ivhd(ivhd_at(self.bytes)))
         } else if is_ivmd(kind) {
-            Some(IvrsFields::Ivmd(Ivmd::read(self.bytes)))
+            Some(IvrsFields::Ivmd(ivmd_at(self.bytes)))
         } else {
             None
         }
@@ -158,7 +136,7 @@ impl<'a> IvrsBlock<'a> {
 
     /// The unit, if this is an IVHD.
     pub fn ivhd(&self) -> Option<Ivhd> {
-        if is_ivhd(self.kind()) { Some(Ivhd::read(self.bytes)) } else { None }
+        if is_ivhd(self.kind()) { Some(ivhd_at(self.bytes)) } else { None }
     }
 
     /// The device entries of an IVHD, in order; other blocks have none.
@@ -178,7 +156,7 @@ impl<'a> IvrsBlock<'a> {
         if !self.has_whole_entries() {
             return Some(IommuError::InvalidStructureLength);
         }
-        if is_ivmd(self.kind()) && !Ivmd::read(self.bytes).ends_below() {
+        if is_ivmd(self.kind()) && !ivmd_at(self.bytes).ends_below() {
             return Some(IommuError::InvalidMemoryRange);
         }
         None
@@ -186,13 +164,13 @@ impl<'a> IvrsBlock<'a> {
 
     /// Whether this is a block of a type and a segment.
     pub(super) fn is_of(&self, kind: u8, segment: u16) -> bool {
-        let unit = Ivhd::read(self.bytes);
+        let unit = ivhd_at(self.bytes);
         unit.kind == kind && unit.segment == segment
     }
 
     /// What the first entry that covers a device contains, if this is a block of a type and a segment that has one.
     pub(super) fn unit(&self, kind: u8, segment: u16, device_id: u16) -> Option<DeviceUnit> {
-        let unit = Ivhd::read(self.bytes);
+        let unit = ivhd_at(self.bytes);
         if unit.kind != kind || unit.segment != segment {
             return None;
         }
@@ -207,7 +185,7 @@ impl<'a> IvrsBlock<'a> {
 
     /// The memory, if this block is an IVMD for a device.
     pub(super) fn memory_for(&self, device_id: u16) -> Option<Ivmd> {
-        let memory = Ivmd::read(self.bytes);
+        let memory = ivmd_at(self.bytes);
         let is_meant = match memory.kind {
             0x20 => true,
             0x21 => memory.device_id == device_id,
@@ -227,7 +205,7 @@ impl<'a> PieceKind<'a> for Blocks {
 
     fn size_at(bytes: &[u8]) -> Option<usize> {
         let length = field(bytes, 2, 2) as usize; // Length
-        said(least_of(kind_of(bytes)), length)
+        valid_length(least_of(kind_of(bytes)), length)
     }
 
     fn piece(bytes: &'a [u8]) -> IvrsBlock<'a> {

@@ -4,6 +4,8 @@
 use super::affinities::MemoryRange;
 use super::kinds::{
     GenericAffinity, GicItsAffinity, GiccAffinity, LocalApicAffinity, LocalX2ApicAffinity, MemoryAffinity,
+    generic_affinity_at, gic_its_affinity_at, gicc_affinity_at, local_apic_affinity_at, local_x2apic_affinity_at,
+    memory_affinity_at,
 };
 use crate::base::bytes::has_bit;
 use crate::base::entries::{EntryLayout, Grammar, Place, Width};
@@ -46,7 +48,15 @@ pub const SRAT_GRAMMAR: Grammar<7> = Grammar {
     layout: EntryLayout {
         kind_place: Place { at: 0, width: Width::One },
         length_place: Place { at: 1, width: Width::One },
-        least_lengths: [16, 40, 24, 18, 12, 32, 32],
+        least_lengths: [
+            LocalApicAffinity::MIN_LENGTH,
+            MemoryAffinity::MIN_LENGTH,
+            LocalX2ApicAffinity::MIN_LENGTH,
+            GiccAffinity::MIN_LENGTH,
+            GicItsAffinity::MIN_LENGTH,
+            GenericAffinity::MIN_LENGTH,
+            GenericAffinity::MIN_LENGTH,
+        ],
         least_of_others: 2,
     },
     most: None,
@@ -60,13 +70,13 @@ impl SratEntry {
     /// Panics if the entry is shorter than one of its type.
     pub fn read(revision: u8, entry: &[u8]) -> Option<SratEntry> {
         match entry[0] {
-            0 => Some(SratEntry::LocalApic(LocalApicAffinity::read(revision, entry))),
-            1 => Some(SratEntry::Memory(MemoryAffinity::read(revision, entry))),
-            2 => Some(SratEntry::LocalX2Apic(LocalX2ApicAffinity::read(entry))),
-            3 => Some(SratEntry::Gicc(GiccAffinity::read(entry))),
-            4 => Some(SratEntry::GicIts(GicItsAffinity::read(entry))),
-            5 => Some(SratEntry::GenericInitiator(GenericAffinity::read(entry))),
-            6 => Some(SratEntry::GenericPort(GenericAffinity::read(entry))),
+            0 => Some(SratEntry::LocalApic(local_apic_affinity_at(revision, entry))),
+            1 => Some(SratEntry::Memory(memory_affinity_at(revision, entry))),
+            2 => Some(SratEntry::LocalX2Apic(local_x2apic_affinity_at(entry))),
+            3 => Some(SratEntry::Gicc(gicc_affinity_at(entry))),
+            4 => Some(SratEntry::GicIts(gic_its_affinity_at(entry))),
+            5 => Some(SratEntry::GenericInitiator(generic_affinity_at(entry))),
+            6 => Some(SratEntry::GenericPort(generic_affinity_at(entry))),
             _ => None,
         }
     }

@@ -5,7 +5,13 @@
 //! 0 and 1 it is its lowest byte alone, and the others are reserved. By bit 0 of the flags an entry
 //! counts: `SratEntry::is_enabled`.
 
-use crate::base::bytes::{field_in, filled_in, has_bit};
+mod readings;
+
+use crate::base::bytes::has_bit;
+pub(super) use readings::{
+    generic_affinity_at, gic_its_affinity_at, gicc_affinity_at, local_apic_affinity_at, local_x2apic_affinity_at,
+    memory_affinity_at,
+};
 
 /// Processor Local APIC/SAPIC Affinity Structure: the domain of a processor with a local APIC (section
 /// 5.2.16.1).
@@ -25,18 +31,8 @@ pub struct LocalApicAffinity {
 }
 
 impl LocalApicAffinity {
-    /// The entry that bytes mean in a table of a revision.
-    pub(super) fn read(revision: u8, bytes: &[u8]) -> Self {
-        let lowest = field_in(bytes, 2, 1) as u32; // Proximity Domain [7:0]
-        let higher = field_in(bytes, 9, 3) as u32; // Proximity Domain [31:8]
-        LocalApicAffinity {
-            domain: if revision < 2 { lowest } else { lowest + 256 * higher },
-            apic_id: field_in(bytes, 3, 1) as u8,        // APIC ID
-            flags: field_in(bytes, 4, 4) as u32,         // Flags
-            sapic_eid: field_in(bytes, 8, 1) as u8,      // Local SAPIC EID
-            clock_domain: field_in(bytes, 12, 4) as u32, // Clock Domain
-        }
-    }
+    /// The least length of the entry, in bytes.
+    pub(super) const MIN_LENGTH: usize = 16;
 }
 
 /// Memory Affinity Structure: the domain of a range of memory (section 5.2.16.2).
@@ -54,16 +50,8 @@ pub struct MemoryAffinity {
 }
 
 impl MemoryAffinity {
-    /// The entry that bytes mean in a table of a revision.
-    pub(super) fn read(revision: u8, bytes: &[u8]) -> Self {
-        let width = if revision < 2 { 1 } else { 4 };
-        MemoryAffinity {
-            domain: field_in(bytes, 2, width) as u32, // Proximity Domain
-            base: field_in(bytes, 8, 8),              // Base Address Low, Base Address High
-            length: field_in(bytes, 16, 8),           // Length Low, Length High
-            flags: field_in(bytes, 28, 4) as u32,     // Flags
-        }
-    }
+    /// The least length of the entry, in bytes.
+    pub(super) const MIN_LENGTH: usize = 40;
 
     /// Hot Pluggable (bit 1 of the flags, section 5.2.16.2): whether the memory can be plugged in while the
     /// machine runs.
@@ -92,15 +80,8 @@ pub struct LocalX2ApicAffinity {
 }
 
 impl LocalX2ApicAffinity {
-    /// The entry that bytes mean.
-    pub(super) fn read(bytes: &[u8]) -> Self {
-        LocalX2ApicAffinity {
-            domain: field_in(bytes, 4, 4) as u32,        // Proximity Domain
-            x2apic_id: field_in(bytes, 8, 4) as u32,     // X2APIC ID
-            flags: field_in(bytes, 12, 4) as u32,        // Flags
-            clock_domain: field_in(bytes, 16, 4) as u32, // Clock Domain
-        }
-    }
+    /// The least length of the entry, in bytes.
+    pub(super) const MIN_LENGTH: usize = 24;
 }
 
 /// GICC Affinity Structure: the domain of a processor with an interface to the Generic Interrupt Controller
@@ -118,15 +99,8 @@ pub struct GiccAffinity {
 }
 
 impl GiccAffinity {
-    /// The entry that bytes mean.
-    pub(super) fn read(bytes: &[u8]) -> Self {
-        GiccAffinity {
-            domain: field_in(bytes, 2, 4) as u32,        // Proximity Domain
-            processor_uid: field_in(bytes, 6, 4) as u32, // ACPI Processor UID
-            flags: field_in(bytes, 10, 4) as u32,        // Flags
-            clock_domain: field_in(bytes, 14, 4) as u32, // Clock Domain
-        }
-    }
+    /// The least length of the entry, in bytes.
+    pub(super) const MIN_LENGTH: usize = 18;
 }
 
 /// GIC Interrupt Translation Service (ITS) Affinity Structure: the domain of such a service (section
@@ -140,13 +114,8 @@ pub struct GicItsAffinity {
 }
 
 impl GicItsAffinity {
-    /// The entry that bytes mean.
-    pub(super) fn read(bytes: &[u8]) -> Self {
-        GicItsAffinity {
-            domain: field_in(bytes, 2, 4) as u32, // Proximity Domain
-            its_id: field_in(bytes, 8, 4) as u32, // ITS ID
-        }
-    }
+    /// The least length of the entry, in bytes.
+    pub(super) const MIN_LENGTH: usize = 12;
 }
 
 /// Generic Initiator Affinity Structure: the domain of a device that reads and writes memory by itself
@@ -167,19 +136,17 @@ pub struct GenericAffinity {
 }
 
 impl GenericAffinity {
-    /// The entry that bytes mean.
-    pub(super) fn read(bytes: &[u8]) -> Self {
-        GenericAffinity {
-            handle_type: field_in(bytes, 3, 1) as u8, // Device Handle Type
-            domain: field_in(bytes, 4, 4) as u32,     // Proximity Domain
-            device_handle: filled_in(bytes, 8),       // Device Handle
-            flags: field_in(bytes, 24, 4) as u32,     // Flags
-        }
-    }
+    /// The least length of the entry, in bytes.
+    pub(super) const MIN_LENGTH: usize = 32;
 
     /// Architectural Transactions (bit 1 of the flags, section 5.2.16.6): whether all transactions of the
     /// device are architectural ones.
     pub fn has_architectural_transactions(&self) -> bool {
         has_bit(self.flags as u64, 1) // Architectural Transactions
     }
+}
+
+/// A domain whose higher bytes came with revision 2 of the table: before, its lowest byte alone.
+fn domain_since_2(revision: u8, lowest: u32, whole: u32) -> u32 {
+    if revision < 2 { lowest } else { whole }
 }

@@ -1,15 +1,15 @@
 // Made by scripts/erase of crates/acpi_writer/src/spcr/fields.rt, where it is proved.
-//! The fixed fields of an SPCR, each with its bytes.
+//! The fields of an SPCR, each with its bytes.
 
 use super::{SpcrContents, SpcrPciDevice};
 use crate::base::bytes::{bits, has_bit};
 use crate::base::spcr::{SpcrFlowControl, SpcrInterruptType, SpcrTerminalType};
 use crate::flags::Flags;
-use crate::write::fields::{Field, Record};
-use crate::write::generic::register_or_zeros;
+use crate::table_writer::fields::Field;
+use crate::table_writer::spelled::{Bytes, Spelled, Then};
 
 /// The PCI device, or the numbers of a port that is none.
-fn device_of(device: Option<SpcrPciDevice>) -> SpcrPciDevice {
+pub(crate) fn device_of(device: Option<SpcrPciDevice>) -> SpcrPciDevice {
     match device {
         Some(device) => device,
         None => {
@@ -19,7 +19,7 @@ fn device_of(device: Option<SpcrPciDevice>) -> SpcrPciDevice {
 }
 
 /// The code of a rate, or 0, which leaves it as it is.
-fn baud_code(rate: u32) -> u8 {
+pub(crate) fn baud_code(rate: u32) -> u8 {
     if rate == 9600 {
         3
     } else if rate == 19200 {
@@ -34,67 +34,48 @@ fn baud_code(rate: u32) -> u8 {
 }
 
 /// The byte Interrupt Type.
-fn interrupt_byte(interrupt_type: SpcrInterruptType) -> u8 {
+pub(crate) fn interrupt_byte(interrupt_type: SpcrInterruptType) -> u8 {
     interrupt_type.bits()
 }
 
 /// IRQ, or 0 if the port has none on the 8259s.
-fn irq_of(contents: &SpcrContents<'_>) -> u8 {
+pub(crate) fn irq_of(contents: &SpcrContents<'_>) -> u8 {
     if has_bit(interrupt_byte(contents.interrupt_type) as u64, 0) { contents.irq } else { 0 }
 }
 
 /// Global System Interrupt, or 0 if the port has none on another controller.
-fn interrupt_of(contents: &SpcrContents<'_>) -> u32 {
+pub(crate) fn interrupt_of(contents: &SpcrContents<'_>) -> u32 {
     if bits(interrupt_byte(contents.interrupt_type) as u64, 1, 4) == 0 { 0 } else { contents.global_system_interrupt }
 }
 
 /// The byte Flow Control.
-fn flow_byte(flow_control: SpcrFlowControl) -> u8 {
+pub(crate) fn flow_byte(flow_control: SpcrFlowControl) -> u8 {
     flow_control.bits()
 }
 
 /// The byte Terminal Type.
-fn terminal_byte(terminal_type: SpcrTerminalType) -> u8 {
+pub(crate) fn terminal_byte(terminal_type: SpcrTerminalType) -> u8 {
     terminal_type.bits()
 }
 
-/// The fixed fields.
-impl Record for SpcrContents<'_> {
-    type Fields = [Field; 27];
+/// NamespaceStringLength: with the zero that ends the name.
+pub(crate) fn name_length(contents: &SpcrContents<'_>) -> u16 {
+    let length = contents.namespace_string.len() as u64 + 1;
+    (length % 0x10000) as u16
+}
 
-    fn fields(&self) -> [Field; 27] {
-        let base = register_or_zeros(self.base_address);
-        let device = device_of(self.pci_device);
-        // With the zero that ends it.
-        let name_length = self.namespace_string.len() as u64 + 1;
-        [
-            Field::U8(self.interface_type.code()),
-            Field::Zeros(3),
-            Field::U8(base.address_space.code()),
-            Field::U8(base.bit_width),
-            Field::U8(base.bit_offset),
-            Field::U8(base.access_size.code()),
-            Field::U64(base.address),
-            Field::U8(interrupt_byte(self.interrupt_type)),
-            Field::U8(irq_of(self)),
-            Field::U32(interrupt_of(self)),
-            Field::U8(baud_code(self.baud_rate)),
-            Field::U8(self.parity),
-            Field::U8(self.stop_bits),
-            Field::U8(flow_byte(self.flow_control)),
-            Field::U8(terminal_byte(self.terminal_type)),
-            Field::U8(self.language),
-            Field::U16(device.device_id),
-            Field::U16(device.vendor_id),
-            Field::U8(device.bus),
-            Field::U8(device.device),
-            Field::U8(device.function),
-            Field::U32(device.flags),
-            Field::U8(device.segment),
-            Field::U32(self.uart_clock_frequency),
-            Field::U32(self.baud_rate),
-            Field::U16((name_length % 0x10000) as u16),
-            Field::U16(88),
-        ]
+/// NamespaceString, which a zero ends.
+#[derive(Clone, Copy)]
+pub struct Name<'a>(pub(super) &'a str);
+
+impl Spelled for Name<'_> {
+    fn measure(&self, room: usize) -> Option<usize> {
+        let text = self.0.as_bytes();
+        let size = text.len() + 1;
+        if room < size { None } else { Some(size) }
+    }
+
+    fn put(&self, out: &mut [u8]) {
+        Then(Bytes(self.0.as_bytes()), Field::U8(0)).put(out);
     }
 }

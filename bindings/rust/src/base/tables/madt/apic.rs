@@ -1,9 +1,14 @@
 // Made by scripts/erase of crates/acpi_base/src/tables/madt/apic.rt, where it is proved.
 //! Entries of the APIC model (ACPI 6.4, sections 5.2.12.2 to 5.2.12.8, 5.2.12.12 and 5.2.12.13).
 
+mod readings;
+
 use super::entry::EntryHeader;
-use crate::base::bytes::{field_in, u8_in, u16_in, u32_in};
 use crate::base::memory::handler::PhysicalRecord;
+use readings::{
+    interrupt_source_override_at, io_apic_at, local_apic_address_override_at, local_apic_at, local_apic_nmi_at,
+    local_x2apic_at, nmi_source_at, x2apic_nmi_at,
+};
 
 /// Processor Local APIC: a processor and its local APIC (ACPI 6.4, section 5.2.12.2).
 #[derive(Clone, Copy, Debug)]
@@ -25,12 +30,7 @@ impl PhysicalRecord for LocalApicEntry {
     #[inline(always)]
     fn read(bytes: &[u8]) -> Self {
         assert!(Self::MIN_LENGTH <= bytes.len());
-        LocalApicEntry {
-            header: EntryHeader::read(bytes),
-            processor_id: u8_in(bytes, 2), // ACPI Processor UID
-            apic_id: u8_in(bytes, 3),      // APIC ID
-            flags: u32_in(bytes, 4),       // Flags (Local APIC Flags)
-        }
+        local_apic_at(bytes)
     }
 }
 
@@ -54,12 +54,7 @@ impl PhysicalRecord for IoApicEntry {
     #[inline(always)]
     fn read(bytes: &[u8]) -> Self {
         assert!(Self::MIN_LENGTH <= bytes.len());
-        IoApicEntry {
-            header: EntryHeader::read(bytes),
-            io_apic_id: u8_in(bytes, 2),                    // I/O APIC ID
-            io_apic_address: u32_in(bytes, 4),              // I/O APIC Address
-            global_system_interrupt_base: u32_in(bytes, 8), // Global System Interrupt Base
-        }
+        io_apic_at(bytes)
     }
 }
 
@@ -86,13 +81,7 @@ impl PhysicalRecord for InterruptSourceOverrideEntry {
     #[inline(always)]
     fn read(bytes: &[u8]) -> Self {
         assert!(Self::MIN_LENGTH <= bytes.len());
-        InterruptSourceOverrideEntry {
-            header: EntryHeader::read(bytes),
-            bus: u8_in(bytes, 2),                      // Bus
-            irq: u8_in(bytes, 3),                      // Source
-            global_system_interrupt: u32_in(bytes, 4), // Global System Interrupt
-            flags: u16_in(bytes, 8),                   // Flags (MPS INTI Flags)
-        }
+        interrupt_source_override_at(bytes)
     }
 }
 
@@ -114,11 +103,7 @@ impl PhysicalRecord for NmiSourceEntry {
     #[inline(always)]
     fn read(bytes: &[u8]) -> Self {
         assert!(Self::MIN_LENGTH <= bytes.len());
-        NmiSourceEntry {
-            header: EntryHeader::read(bytes),
-            flags: u16_in(bytes, 2),                   // Flags (MPS INTI Flags)
-            global_system_interrupt: u32_in(bytes, 4), // Global System Interrupt
-        }
+        nmi_source_at(bytes)
     }
 }
 
@@ -143,12 +128,7 @@ impl PhysicalRecord for LocalApicNmiEntry {
     #[inline(always)]
     fn read(bytes: &[u8]) -> Self {
         assert!(Self::MIN_LENGTH <= bytes.len());
-        LocalApicNmiEntry {
-            header: EntryHeader::read(bytes),
-            processor_id: u8_in(bytes, 2), // ACPI Processor UID
-            flags: u16_in(bytes, 3),       // Flags (MPS INTI Flags)
-            nmi_line: u8_in(bytes, 5),     // Local APIC LINT#
-        }
+        local_apic_nmi_at(bytes)
     }
 }
 
@@ -169,10 +149,7 @@ impl PhysicalRecord for LocalApicAddressOverrideEntry {
     #[inline(always)]
     fn read(bytes: &[u8]) -> Self {
         assert!(Self::MIN_LENGTH <= bytes.len());
-        LocalApicAddressOverrideEntry {
-            header: EntryHeader::read(bytes),
-            local_apic_address: field_in(bytes, 4, 8), // Local APIC Address
-        }
+        local_apic_address_override_at(bytes)
     }
 }
 
@@ -196,12 +173,7 @@ impl PhysicalRecord for LocalX2ApicEntry {
     #[inline(always)]
     fn read(bytes: &[u8]) -> Self {
         assert!(Self::MIN_LENGTH <= bytes.len());
-        LocalX2ApicEntry {
-            header: EntryHeader::read(bytes),
-            x2apic_id: u32_in(bytes, 4),      // X2APIC ID
-            flags: u32_in(bytes, 8),          // Flags (Local APIC Flags)
-            processor_uid: u32_in(bytes, 12), // ACPI Processor UID
-        }
+        local_x2apic_at(bytes)
     }
 }
 
@@ -226,11 +198,6 @@ impl PhysicalRecord for X2ApicNmiEntry {
     #[inline(always)]
     fn read(bytes: &[u8]) -> Self {
         assert!(Self::MIN_LENGTH <= bytes.len());
-        X2ApicNmiEntry {
-            header: EntryHeader::read(bytes),
-            flags: u16_in(bytes, 2),         // Flags (MPS INTI Flags)
-            processor_uid: u32_in(bytes, 4), // ACPI Processor UID
-            nmi_line: u8_in(bytes, 8),       // Local x2APIC LINT#
-        }
+        x2apic_nmi_at(bytes)
     }
 }

@@ -1,6 +1,8 @@
 // Made by scripts/erase of crates/acpi_base/src/tables/madt/entry.rt, where it is proved.
 //! One entry of a MADT (section 5.2.12).
 
+mod readings;
+
 use super::apic::{
     InterruptSourceOverrideEntry, IoApicEntry, LocalApicAddressOverrideEntry, LocalApicEntry, LocalApicNmiEntry,
     LocalX2ApicEntry, NmiSourceEntry, X2ApicNmiEntry,
@@ -8,9 +10,9 @@ use super::apic::{
 use super::gic::{GicInterruptTranslationServiceEntry, GicMsiFrameEntry, GicRedistributorEntry, GiccEntry, GicdEntry};
 use super::sapic::{IoSapicEntry, LocalSapicEntry, PlatformInterruptSourceEntry};
 use super::wakeup::MultiprocessorWakeupEntry;
-use crate::base::bytes::u8_in;
 use crate::base::entries::{EntryLayout, Grammar, Place, Width};
 use crate::base::memory::handler::PhysicalRecord;
+use readings::entry_header_at;
 
 /// Type and Length: the two bytes that each entry of a MADT begins with (section 5.2.12).
 #[derive(Clone, Copy, Debug)]
@@ -28,10 +30,7 @@ impl PhysicalRecord for EntryHeader {
     #[inline(always)]
     fn read(bytes: &[u8]) -> Self {
         assert!(Self::MIN_LENGTH <= bytes.len());
-        EntryHeader {
-            entry_type: u8_in(bytes, 0), // Type
-            length: u8_in(bytes, 1),     // Length
-        }
+        entry_header_at(bytes)
     }
 }
 

@@ -1,10 +1,12 @@
 // Made by scripts/erase of crates/acpi_base/src/tables/madt/gic.rt, where it is proved.
 //! Entries of the GIC model (ACPI 6.4, sections 5.2.12.14 to 5.2.12.18).
 
+mod readings;
+
 use super::entry::EntryHeader;
-use crate::base::bytes::{field, field_in, u8_in, u16_in, u32_in};
 use crate::base::extended::ExtendedField;
 use crate::base::memory::handler::PhysicalRecord;
+use readings::{gic_msi_frame_at, gic_redistributor_at, gic_translation_service_at, gicc_at, gicd_at};
 
 /// GIC CPU Interface (GICC): a processor and its interface to the generic interrupt controller. A
 /// field that reaches past the end of a short entry is read as if zeros followed (ACPI 6.4, section
@@ -55,24 +57,7 @@ impl PhysicalRecord for GiccEntry {
     #[inline(always)]
     fn read(bytes: &[u8]) -> Self {
         assert!(Self::MIN_LENGTH <= bytes.len());
-        GiccEntry {
-            header: EntryHeader::read(bytes),
-            cpu_interface_number: u32_in(bytes, 4),        // CPU Interface Number
-            processor_uid: u32_in(bytes, 8),               // ACPI Processor UID
-            flags: u32_in(bytes, 12),                      // Flags (GICC CPU Interface Flags)
-            parking_protocol_version: u32_in(bytes, 16),   // Parking Protocol Version
-            performance_interrupt_gsiv: u32_in(bytes, 20), // Performance Interrupt GSIV
-            parked_address: field_in(bytes, 24, 8),        // Parked Address
-            gic_registers_address: field_in(bytes, 32, 8), // Physical Base Address
-            gic_virtual_registers_address: field_in(bytes, 40, 8), // GICV
-            gic_hypervisor_registers_address: field_in(bytes, 48, 8), // GICH
-            vgic_maintenance_interrupt: u32_in(bytes, 56), // VGIC Maintenance interrupt
-            gicr_base_address: field_in(bytes, 60, 8),     // GICR Base Address
-            mpidr: field_in(bytes, 68, 8),                 // MPIDR
-            processor_power_efficiency_class: field(bytes, 76, 1) as u8, // Processor Power Efficiency Class
-            spe_overflow_interrupt: field(bytes, 78, 2) as u16, // SPE overflow Interrupt
-            trbe_interrupt: ExtendedField::read(bytes, 80), // TRBE Interrupt, since ACPI 6.5
-        }
+        gicc_at(bytes)
     }
 }
 
@@ -98,13 +83,7 @@ impl PhysicalRecord for GicdEntry {
     #[inline(always)]
     fn read(bytes: &[u8]) -> Self {
         assert!(Self::MIN_LENGTH <= bytes.len());
-        GicdEntry {
-            header: EntryHeader::read(bytes),
-            gic_id: u32_in(bytes, 4),                     // GIC ID
-            physical_base_address: field_in(bytes, 8, 8), // Physical Base Address
-            system_vector_base: u32_in(bytes, 16),        // System Vector Base
-            gic_version: u8_in(bytes, 20),                // GIC version
-        }
+        gicd_at(bytes)
     }
 }
 
@@ -132,14 +111,7 @@ impl PhysicalRecord for GicMsiFrameEntry {
     #[inline(always)]
     fn read(bytes: &[u8]) -> Self {
         assert!(Self::MIN_LENGTH <= bytes.len());
-        GicMsiFrameEntry {
-            header: EntryHeader::read(bytes),
-            frame_id: u32_in(bytes, 4),                   // GIC MSI Frame ID
-            physical_base_address: field_in(bytes, 8, 8), // Physical Base Address
-            flags: u32_in(bytes, 16),                     // Flags (GIC MSI Frame Flags)
-            spi_count: u16_in(bytes, 20),                 // SPI Count
-            spi_base: u16_in(bytes, 22),                  // SPI Base
-        }
+        gic_msi_frame_at(bytes)
     }
 }
 
@@ -161,11 +133,7 @@ impl PhysicalRecord for GicRedistributorEntry {
     #[inline(always)]
     fn read(bytes: &[u8]) -> Self {
         assert!(Self::MIN_LENGTH <= bytes.len());
-        GicRedistributorEntry {
-            header: EntryHeader::read(bytes),
-            discovery_range_base_address: field_in(bytes, 4, 8), // Discovery Range Base Address
-            discovery_range_length: u32_in(bytes, 12),           // Discovery Range Length
-        }
+        gic_redistributor_at(bytes)
     }
 }
 
@@ -188,10 +156,6 @@ impl PhysicalRecord for GicInterruptTranslationServiceEntry {
     #[inline(always)]
     fn read(bytes: &[u8]) -> Self {
         assert!(Self::MIN_LENGTH <= bytes.len());
-        GicInterruptTranslationServiceEntry {
-            header: EntryHeader::read(bytes),
-            id: u32_in(bytes, 4),                         // GIC ITS ID
-            physical_base_address: field_in(bytes, 8, 8), // Physical Base Address
-        }
+        gic_translation_service_at(bytes)
     }
 }

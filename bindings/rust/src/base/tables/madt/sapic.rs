@@ -1,9 +1,11 @@
 // Made by scripts/erase of crates/acpi_base/src/tables/madt/sapic.rt, where it is proved.
 //! Entries of the SAPIC model (ACPI 6.4, sections 5.2.12.9 to 5.2.12.11).
 
+mod readings;
+
 use super::entry::EntryHeader;
-use crate::base::bytes::{field_in, u8_in, u16_in, u32_in};
 use crate::base::memory::handler::PhysicalRecord;
+use readings::{io_sapic_at, local_sapic_at, platform_interrupt_source_at};
 
 /// I/O SAPIC: one that is used in place of the I/O APIC of the same id (ACPI 6.4, section 5.2.12.9).
 #[derive(Clone, Copy, Debug)]
@@ -25,12 +27,7 @@ impl PhysicalRecord for IoSapicEntry {
     #[inline(always)]
     fn read(bytes: &[u8]) -> Self {
         assert!(Self::MIN_LENGTH <= bytes.len());
-        IoSapicEntry {
-            header: EntryHeader::read(bytes),
-            io_apic_id: u8_in(bytes, 2),                    // I/O APIC ID
-            global_system_interrupt_base: u32_in(bytes, 4), // Global System Interrupt Base
-            io_sapic_address: field_in(bytes, 8, 8),        // I/O SAPIC Address
-        }
+        io_sapic_at(bytes)
     }
 }
 
@@ -59,14 +56,7 @@ impl PhysicalRecord for LocalSapicEntry {
     #[inline(always)]
     fn read(bytes: &[u8]) -> Self {
         assert!(Self::MIN_LENGTH <= bytes.len());
-        LocalSapicEntry {
-            header: EntryHeader::read(bytes),
-            processor_id: u8_in(bytes, 2),    // ACPI Processor ID
-            local_sapic_id: u8_in(bytes, 3),  // Local SAPIC ID
-            local_sapic_eid: u8_in(bytes, 4), // Local SAPIC EID
-            flags: u32_in(bytes, 8),          // Flags (Local APIC Flags)
-            processor_uid: u32_in(bytes, 12), // ACPI Processor UID Value
-        }
+        local_sapic_at(bytes)
     }
 }
 
@@ -98,15 +88,6 @@ impl PhysicalRecord for PlatformInterruptSourceEntry {
     #[inline(always)]
     fn read(bytes: &[u8]) -> Self {
         assert!(Self::MIN_LENGTH <= bytes.len());
-        PlatformInterruptSourceEntry {
-            header: EntryHeader::read(bytes),
-            flags: u16_in(bytes, 2),                            // Flags (MPS INTI Flags)
-            interrupt_type: u8_in(bytes, 4),                    // Interrupt Type
-            processor_id: u8_in(bytes, 5),                      // Processor ID
-            processor_eid: u8_in(bytes, 6),                     // Processor EID
-            io_sapic_vector: u8_in(bytes, 7),                   // I/O SAPIC Vector
-            global_system_interrupt: u32_in(bytes, 8),          // Global System Interrupt
-            platform_interrupt_source_flags: u32_in(bytes, 12), // Platform Interrupt Source Flags
-        }
+        platform_interrupt_source_at(bytes)
     }
 }

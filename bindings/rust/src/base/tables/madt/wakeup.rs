@@ -1,9 +1,11 @@
 // Made by scripts/erase of crates/acpi_base/src/tables/madt/wakeup.rt, where it is proved.
 //! The Multiprocessor Wakeup entry and its mailbox, by which processors are woken (section 5.2.12.19).
 
+mod readings;
+
 use super::entry::EntryHeader;
-use crate::base::bytes::{field_in, u16_in};
 use crate::base::memory::handler::PhysicalRecord;
+use readings::multiprocessor_wakeup_at;
 
 /// Multiprocessor Wakeup: the mailbox by which the firmware is requested to wake a processor (section
 /// 5.2.12.19).
@@ -24,11 +26,7 @@ impl PhysicalRecord for MultiprocessorWakeupEntry {
     #[inline(always)]
     fn read(bytes: &[u8]) -> Self {
         assert!(Self::MIN_LENGTH <= bytes.len());
-        MultiprocessorWakeupEntry {
-            header: EntryHeader::read(bytes),
-            mailbox_version: u16_in(bytes, 2),      // MailBoxVersion
-            mailbox_address: field_in(bytes, 8, 8), // MailBoxAddress
-        }
+        multiprocessor_wakeup_at(bytes)
     }
 }
 

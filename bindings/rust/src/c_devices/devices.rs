@@ -1,0 +1,122 @@
+// Made by scripts/erase of crates/acpi_c_devices/src/devices.rt, where it is proved.
+//! Devices that tables of their own describe.
+
+mod shown;
+
+use crate::acpi::address::GenericAddress;
+use crate::acpi::bgrt::{Bgrt, ImageType};
+use crate::acpi::hpet::{HpetTable, PageProtection};
+use crate::acpi::platform::PmTimer;
+use crate::acpi::{Accept, AcpiError, AcpiHandler, AcpiResult, AcpiTables, Pointers};
+use crate::base::bytes::{bits, field_in, u8_in, u16_in, u32_in};
+use crate::c_devices::records::{self, BootGraphic, HpetInfo, Register};
+use crate::c_lib::lists::{Listing, fill};
+use crate::c_lib::opening::{find_fadt, first, open};
+use crate::c_lib::records::Source;
+use crate::c_lib::refusal::Refusal;
+use crate::c_lib::regions::Mapped;
+use shown::generic_record;
+
+/// The block of event timers that the first valid HPET describes.
+pub fn hpet(source: &Source<'_>) -> Result<HpetInfo, Refusal> {
+    let memory = Mapped::new(source.regions)?;
+    let tables = open(&memory, source)?;
+    let table = tables.find_table::<HpetTable>()?;
+    let block = hpet_shown(table.bytes())?;
+    Ok(block)
+}
+
+/// The block of event timers that the bytes of an HPET describe.
+///
+/// Fails with `InvalidGenericAddress` if its registers aren't in memory.
+fn hpet_shown(table: &[u8]) -> AcpiResult<HpetInfo> {
+    // BASE_ADDRESS: Address Space ID, system memory
+    if u8_in(table, 40) != 0 {
+        return Err(AcpiError::InvalidGenericAddress);
+    }
+    // Page Protection And OEM Attribute, of which bits 0 to 3 are the former
+    let protection = PageProtection::from(bits(u8_in(table, 55) as u64, 0, 4) as u8);
+    Ok(HpetInfo {
+        base_address: field_in(table, 44, 8),    // BASE_ADDRESS: Address
+        event_timer_block_id: u32_in(table, 36), // Event Timer Block ID
+        clock_tick_unit: u16_in(table, 53),      // Main Counter Minimum Clock_tick in Periodic Mode
+        number: u8_in(table, 52),                // HPET Number
+        page_protection: protection.code(),
+    })
+}
+
+/// Lists the blocks of event timers of all valid HPETs whose registers are in memory.
+pub fn hpets(source: &Source<'_>, out: &mut [HpetInfo]) -> Result<usize, Refusal> {
+    let memory = Mapped::new(source.regions)?;
+    let tables = open(&memory, source)?;
+    Ok(fill(tables.addresses(), &tables, out))
+}
+
+impl<H: AcpiHandler> Listing<AcpiTables<'_, H, Accept>, HpetInfo> for Pointers<'_> {
+    fn record(tables: &AcpiTables<'_, H, Accept>, address: u64) -> Option<HpetInfo> {
+        let table = tables.table_at::<HpetTable>(address).ok()?;
+        hpet_shown(table.bytes()).ok()
+    }
+}
+
+/// The power management timer of the first valid FADT.
+pub fn timer(source: &Source<'_>) -> Result<records::PmTimer, Refusal> {
+    let memory = Mapped::new(source.regions)?;
+    let tables = open(&memory, source)?;
+    let fadt = find_fadt(&tables)?;
+    let timer = PmTimer::of(&fadt)?;
+    Ok(timer_record(timer))
+}
+
+fn timer_record(timer: Option<PmTimer>) -> records::PmTimer {
+    match timer {
+        Some(timer) => {
+            records::PmTimer { base: generic_record(&timer.base), present: 1, is_32_bit: timer.supports_32bit as u8 }
+        }
+        None => records::PmTimer::default(),
+    }
+}
+
+/// A register, or that there is none, or that its address is an error. Apart, as a call may have a dozen.
+#[inline(never)]
+pub(crate) fn optional_register(register: AcpiResult<Option<GenericAddress>>) -> Register {
+    let (at, present) = match register {
+        Ok(Some(at)) => (generic_record(&at), 1),
+        Ok(None) => (records::GenericAddress::default(), 0),
+        Err(_) => (records::GenericAddress::default(), 2),
+    };
+    Register { at, present }
+}
+
+/// A register, or that its address is an error.
+pub(crate) fn required_register(register: AcpiResult<GenericAddress>) -> Register {
+    optional_register(register.map(Some))
+}
+
+/// A register, or that there is none, or that its address is an error: for a call that reads the address only if
+/// there is one.
+pub(crate) fn register_if(register: Option<AcpiResult<GenericAddress>>) -> Register {
+    optional_register(register.transpose())
+}
+
+/// The image that the firmware showed, by the first valid BGRT.
+pub fn graphic(source: &Source<'_>) -> Result<BootGraphic, Refusal> {
+    let memory = Mapped::new(source.regions);
+    let bgrt = first::<Bgrt>(&memory, source)?;
+    Ok(graphic_record(&bgrt))
+}
+
+fn graphic_record(bgrt: &Bgrt) -> BootGraphic {
+    let (x, y) = bgrt.image_offset();
+    BootGraphic {
+        address: bgrt.image_address,
+        x,
+        y,
+        orientation: bgrt.orientation_offset(),
+        displayed: bgrt.was_displayed() as u8,
+        image_type: match bgrt.image_type() {
+            ImageType::Bitmap => 0,
+            ImageType::Reserved => 1,
+        },
+    }
+}
