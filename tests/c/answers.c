@@ -1,60 +1,11 @@
 #define _DEFAULT_SOURCE
 #include "answers.h"
-#include "edges.h"
-
-enum { MOST = 1024 }; /* items of a list that are printed */
+#include "answers_print.h"
 
 typedef unsigned long long wide;
 
-/* The name of an error. Of one of the SRAT, the GTDT or an IOMMU's table, the call says which table it is. */
-static const char *error_name(zacpi_status status) {
-    const char *error = zacpi_status_name(status);
-    return status >= ZACPI_NUMA_INVALID_ENTRY_LENGTH && strchr(error, ' ') ? strchr(error, ' ') + 1 : error;
-}
-
-/* `NAME: ERROR`. */
-static void print_error(const char *name, zacpi_status status, const struct zacpi_signature *named) {
-    printf("%s: %s", name, error_name(status));
-    if ((status >= ZACPI_SDT_INVALID_SIGNATURE && status <= ZACPI_TABLE_MISSING) || status == ZACPI_AML_INVALID)
-        printf(" %.4s", named->letters);
-    putchar('\n');
-}
-
 /* Outputs are at the edge (edges.h), painted before each call. */
 void answer_at(int where) { edge = where; }
-
-/* A list: how many items there are, and a line for each, `it`, of those that there was room for. Between the list's
- * name and its room may stand what is asked for. */
-#define LIST(NAME, TYPE, CALL, ASKED, ...) \
-    do { \
-        struct TYPE *const items = (struct TYPE *)painted_again(0, MOST * sizeof(struct TYPE)); \
-        struct zacpi_signature *const named = (struct zacpi_signature *)painted_again(1, sizeof *named); \
-        size_t *const count = (size_t *)painted_again(2, sizeof *count); \
-        const struct TYPE *it; \
-        const zacpi_status refused = CALL ASKED; \
-        if (refused) print_error(NAME, refused, named); \
-        else printf("%s %lu\n", NAME, (unsigned long)*count); \
-        for (it = items; !refused && it < items + (*count < MOST ? *count : MOST); it++) printf("  " __VA_ARGS__); \
-    } while (0)
-#define ALL (source, items, MOST, count, named)
-
-/* One item, `it`, and its line, or an error. */
-#define ONE(NAME, TYPE, CALL, ASKED, ...) \
-    do { \
-        TYPE *const item = (TYPE *)painted_again(0, sizeof(TYPE)); \
-        const TYPE *const it = item; \
-        struct zacpi_signature *const named = (struct zacpi_signature *)painted_again(1, sizeof *named); \
-        const zacpi_status refused = CALL ASKED; \
-        if (refused) print_error(NAME, refused, named); \
-        else printf(NAME " " __VA_ARGS__); \
-    } while (0)
-#define IT (source, item, named)
-
-/* Whether a table isn't there, or nothing of it: then that is the one line. */
-static int is_missing(const char *name, zacpi_status status, const struct zacpi_signature *named) {
-    if (status) print_error(name, status, named);
-    return status != ZACPI_OK;
-}
 
 /* Bytes as one number, the first the highest. */
 static wide number_of(const uint8_t *bytes, size_t length) {
@@ -191,8 +142,7 @@ static void print_devices(const struct zacpi_source *source) {
     ONE("facs", struct zacpi_facs, zacpi_get_facs, IT, "%llx %llx %u %x %x %x %u\n", (wide)it->address,
         (wide)it->waking_vector_64, it->length, it->hardware_signature, it->waking_vector, it->flags, it->version);
     ONE("timers", struct zacpi_hpet_info, zacpi_get_hpet, IT, "%x %u\n", it->event_timer_block_id, it->page_protection);
-    LIST("hpets", zacpi_hpet_info, zacpi_list_hpets, ALL, "%llx %x %u %u %u\n", (wide)it->base_address,
-         it->event_timer_block_id, it->clock_tick_unit, it->number, it->page_protection);
+    LIST_WHOLE("hpets", zacpi_hpet_info, zacpi_list_hpets, ALL, of_hpet_info);
     ONE("image", struct zacpi_boot_graphic, zacpi_get_boot_graphic, IT, "%llx %u\n", (wide)it->address, it->image_type);
     if (!zacpi_get_console(source, &console, &named)) {
         print_register("console", &console.base);

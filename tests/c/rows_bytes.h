@@ -54,7 +54,6 @@ static const struct place_row {
     {REGIONS(placed_low_first), 0x1000, 1, ZACPI_REGIONS_NOT_ASCENDING, {0, 0}},
     {REGIONS(placed_high_first), 0x1000, 1, ZACPI_REGION_TOO_HIGH, {0, 0}}};
 
-FIELDS(of_place, F(struct zacpi_place, region), F(struct zacpi_place, offset));
 static const struct call call_locate = {"locate", NULL, of_place, sizeof(struct zacpi_place), 0};
 
 static void check_place(const struct place_row *row) {
@@ -199,7 +198,6 @@ static const struct entries_row {
     {REGIONS(placed_over), 4, IN_APIC, {44, 0, 8, 8, 8}, ZACPI_REGIONS_NOT_ASCENDING, NULL, 0, 0, {0}},
     {REGIONS(placed_too_high), 0, IN_APIC, {44, 0, 8, 8, 8}, ZACPI_REGION_TOO_HIGH, NULL, 0, 0, {0}}};
 
-FIELDS(of_entry, F(struct zacpi_entry, address), F(struct zacpi_entry, entry_type), F(struct zacpi_entry, length));
 static const struct call call_entries = {"list_entries", NULL, of_entry, sizeof(struct zacpi_entry), 1};
 
 static void check_entries(const struct entries_row *row, size_t room) {

@@ -78,7 +78,7 @@ static void lay_coded(void) {
 static union coded_output {
     fixed fixed;
     plan plan;
-    power_timer timer;
+    pm_timer timer;
     uint8_t bytes[sizeof(plan) > sizeof(fixed) ? sizeof(plan) : sizeof(fixed)];
 } expected;
 #define READER(verb, call, ...) static zacpi_status read_##verb(void *to) \
@@ -100,7 +100,7 @@ static const struct reader {
 } readers[] = {
 #define READS(verb, type, spot, field, reduced) \
     {#verb, read_##verb, of_##type, sizeof(type), spot, offsetof(type, field), reduced}
-    {"fixed", read_fixed, of_fixed, sizeof(fixed), SPOTS, 0, 0}, READS(timer, power_timer, PM_TIMER, base, 0),
+    {"fixed", read_fixed, of_fixed_hardware, sizeof(fixed), SPOTS, 0, 0}, READS(timer, pm_timer, PM_TIMER, base, 0),
     READS(reset, plan, RESET, steps[0].at, 0), READS(enable, plan, PM1A_CONTROL, steps[1].at, 0),
     READS(power_off, plan, PM1A_CONTROL, steps[0].at, 0), READS(power_off, plan, PM1B_CONTROL, steps[1].at, 0),
     READS(sleep, plan, PM1A_CONTROL, steps[0].at, 0), READS(sleep, plan, PM1B_CONTROL, steps[1].at, 0),

@@ -26,10 +26,13 @@ static const uint64_t addresses_64[] = {0x7fe01000, 0x0102030405060708};
 static const uint8_t code[] = {0xa4, 0x01, 0x02};
 static const uint8_t distances[] = {10, 20, 21, 10};
 static const struct zacpi_pci_region buses[] = {{0xb0000000, 0, 0, 255}, {0x2000000000, 0x102, 16, 31}};
-static const struct zacpi_hpet_info timers_block = {0x1fed00000, 0x8086a201, 0x1234, 2, 1};
-static const struct zacpi_hpet_info unprotected = {0x1fed00000, 0x8086a201, 0x1234, 2, 0};
-static const struct zacpi_hpet_info protected_64k = {0x1fed00000, 0x8086a201, 0x1234, 2, 2};
-static const struct zacpi_hpet_info reserved_protection = {0xfed00000, 0x8086a201, 0x80, 2, 9};
+#define HPET_AT(address, id, ticks, protection) \
+    {.base_address = address, .event_timer_block_id = id, .clock_tick_unit = ticks, .number = 2, \
+     .page_protection = protection}
+static const struct zacpi_hpet_info timers_block = HPET_AT(0x1fed00000, 0x8086a201, 0x1234, 1);
+static const struct zacpi_hpet_info unprotected = HPET_AT(0x1fed00000, 0x8086a201, 0x1234, 0);
+static const struct zacpi_hpet_info protected_64k = HPET_AT(0x1fed00000, 0x8086a201, 0x1234, 2);
+static const struct zacpi_hpet_info reserved_protection = HPET_AT(0xfed00000, 0x8086a201, 0x80, 9);
 /* The second one's ids are too large for a Processor Local APIC; the third one's uid alone, and the fourth one's id.
  * The last one's have a place there, but it is an x2APIC. */
 static const struct zacpi_processor listed[] = {{7, 2, ZACPI_PROCESSOR_RUNNING, 1, 0, 0},

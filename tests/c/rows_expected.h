@@ -8,6 +8,8 @@
 /* OEMID, OEM Table ID, OEM Revision, Creator ID and Creator Revision of a table: zeros, and those of the table HPET. */
 #define NO_IDS 0, 0, 0, 0, 0
 #define HPET_IDS 0x464544434241, 0x4e4d4c4b4a494847, 0x12345678, LETTERS('O', 'P', 'Q', 'R'), 0x9abcdef0
+/* A block of timers at this address, all of whose other fields are 0. */
+#define HPET_OF_ZEROS(address) address, 0, 0, 0, 0
 #define ABSENT 0, 0, 0, 0, 0, 0
 #define REFUSED_REGISTER 0, 0, 0, 0, 0, 2
 #define GOOD(call, machine, letters, arguments, count, ...) \
@@ -174,7 +176,7 @@ static const struct row rows[] = {
     GOOD(get_hpet, MOBILE, NULL, NO, 1, 0xfed10000, 0x10de8202, 0x1234, 3, 1),
     GOOD(get_hpet, WORKSTATION, NULL, NO, 1, 0xfed20000, 0x10de8203, 0x5678, 4, 3),
     GOOD(get_hpet, SERVER, NULL, NO, 1, 0xfed30000, 0x10de8204, 0x9abc, 5, 3), /* 11 is reserved too */
-    GOOD(get_hpet, LEAST, NULL, NO, 1, 0, 0, 0, 0, 0),
+    GOOD(get_hpet, LEAST, NULL, NO, 1, HPET_OF_ZEROS(0)),
     GOOD(list_hpets, PC, NULL, NO, 1, 0x1fed00000, 0x8086a201, 0x80, 1, 2),
     GOOD(list_hpets, HPETS, NULL, NO, 3, 0xfed00000, 0x10de8201, 0x90f3, 2, 0, 0xfed20000, 0x10de8203, 0x5678, 4, 3,
          0xfed00000, 0x10de8201, 0x90f3, 2, 0),

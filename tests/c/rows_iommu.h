@@ -13,29 +13,12 @@ typedef struct zacpi_ivrs_unit ivrs_unit;
 typedef struct zacpi_dmar_scope dmar_scope;
 typedef struct zacpi_ivrs_entry ivrs_entry;
 
-FIELDS(of_dmar_flags, F(dmar_flags, address_bits), F(dmar_flags, flags));
-FIELDS(of_dmar_unit, F(dmar_unit, register_base), F(dmar_unit, register_bytes), F(dmar_unit, segment),
-       F(dmar_unit, includes_pci_all), F(dmar_unit, flags), F(dmar_unit, size));
-FIELDS(of_dmar_source, F(dmar_source, unit.register_base), F(dmar_source, unit.register_bytes),
-       F(dmar_source, unit.segment), F(dmar_source, unit.includes_pci_all), F(dmar_source, unit.flags),
-       F(dmar_source, unit.size), F(dmar_source, bus),
-       F(dmar_source, hop.device), F(dmar_source, hop.function), F(dmar_source, has_hop));
-FIELDS(of_dmar_reserved, F(dmar_reserved, base), F(dmar_reserved, limit), F(dmar_reserved, segment));
-FIELDS(of_ivrs_device, F(ivrs_device, unit.base), F(ivrs_device, unit.extended_features), F(ivrs_device, unit.features),
-       F(ivrs_device, unit.segment), F(ivrs_device, unit.device_id), F(ivrs_device, unit.capability_offset),
-       F(ivrs_device, unit.info), F(ivrs_device, unit.block_type), F(ivrs_device, unit.flags),
-       F(ivrs_device, unit.has_extended_features), F(ivrs_device, source_id), F(ivrs_device, settings));
-FIELDS(of_ivrs_memory, F(ivrs_memory, start), F(ivrs_memory, length), F(ivrs_memory, device_id),
-       F(ivrs_memory, auxiliary), F(ivrs_memory, block_type), F(ivrs_memory, flags));
 
 /* Of a path the first two hops, and the last one that there is room for. */
 FIELDS(of_dmar_scope, F(dmar_scope, path_length), F(dmar_scope, scope_type), F(dmar_scope, flags),
        F(dmar_scope, enumeration_id), F(dmar_scope, bus), F(dmar_scope, path[0].device),
        F(dmar_scope, path[0].function), F(dmar_scope, path[1].device), F(dmar_scope, path[1].function),
        F(dmar_scope, path[15].device), F(dmar_scope, path[15].function));
-FIELDS(of_ivrs_unit, F(ivrs_unit, base), F(ivrs_unit, extended_features), F(ivrs_unit, features), F(ivrs_unit, segment),
-       F(ivrs_unit, device_id), F(ivrs_unit, capability_offset), F(ivrs_unit, info), F(ivrs_unit, block_type),
-       F(ivrs_unit, flags), F(ivrs_unit, has_extended_features));
 /* Of Unique ID the first eight bytes, and the last one that there is room for. */
 FIELDS(of_ivrs_entry, F(ivrs_entry, entry_type), F(ivrs_entry, first), F(ivrs_entry, last), F(ivrs_entry, settings),
        F(ivrs_entry, source_id), F(ivrs_entry, extended_settings), F(ivrs_entry, handle), F(ivrs_entry, variety),

@@ -9,19 +9,12 @@ typedef struct zacpi_its_affinity near_its;
 typedef struct zacpi_dmar_root_ports root_ports;
 typedef struct zacpi_dmar_affinity near_unit;
 
-FIELDS(of_near_processor, F(near_processor, id), F(near_processor, domain), F(near_processor, clock_domain),
-       F(near_processor, entry_type));
-FIELDS(of_initiator, F(initiator, domain), F(initiator, is_architectural), F(initiator, handle_type),
-       {offsetof(initiator, handle), 8}, {offsetof(initiator, handle) + 8, 8});
-FIELDS(of_near_its, F(near_its, domain), F(near_its, its_id));
-FIELDS(of_root_ports, F(root_ports, segment), F(root_ports, includes_all), F(root_ports, flags));
-FIELDS(of_near_unit, F(near_unit, register_base), F(near_unit, domain));
-LIST(list_processor_affinities, near_processor, of_near_processor, )
-LIST(list_generic_initiators, initiator, of_initiator, )
-LIST(list_its_affinities, near_its, of_near_its, )
+LIST(list_processor_affinities, near_processor, of_processor_affinity, )
+LIST(list_generic_initiators, initiator, of_generic_initiator, )
+LIST(list_its_affinities, near_its, of_its_affinity, )
 LIST(list_dmar_regions, dmar_reserved, of_dmar_reserved, )
-LIST(list_dmar_root_ports, root_ports, of_root_ports, )
-LIST(list_dmar_affinities, near_unit, of_near_unit, )
+LIST(list_dmar_root_ports, root_ports, of_dmar_root_ports, )
+LIST(list_dmar_affinities, near_unit, of_dmar_affinity, )
 LIST(list_dmar_structure_scopes, dmar_scope, of_dmar_scope, ARGUMENT(0, uint16_t) ARGUMENT(1, size_t))
 LIST(list_ivrs_regions, ivrs_memory, of_ivrs_memory, )
 

@@ -66,7 +66,7 @@ static const struct row length_rows[] = {
     REFUSED(list_rintcs, GICC_78, NULL, NO, ZACPI_NO_RISCV, NULL),
 
     /* Ids that are UTF-8 are no fault, whatever is accepted. */
-    ONE_PROCESSOR(TEXT_IDS, 6, 16), GOOD(get_hpet, TEXT_IDS, NULL, NO, 1, 0xfed70000, 0, 0, 0, 0),
+    ONE_PROCESSOR(TEXT_IDS, 6, 16), GOOD(get_hpet, TEXT_IDS, NULL, NO, 1, HPET_OF_ZEROS(0xfed70000)),
     /* Their Lengths reach past what is lent. */
     REFUSED(get_hpet, LOST, NULL, NO, ZACPI_TABLE_MISSING, "HPET"), NOTHING(list_hpets, LOST),
     GOOD(get_interrupt_model, LOST, NULL, NO, 1, 0, 0, 0, 0, 0, 0, 0, 0),
@@ -210,5 +210,5 @@ static const struct {
                    {0, ONE_PROCESSOR(SUM_FIRST, 5, 15)}, {IDS, ONE_PROCESSOR(SUM_FIRST, 5, 15)},
                    {SUMS, ONE_PROCESSOR(SUM_FIRST, 4, 14)},
                    MISSING(0, get_hpet, HPET_ID_80, "HPET"), MISSING(SUMS, get_hpet, HPET_ID_80, "HPET"),
-                   {IDS, GOOD(get_hpet, HPET_ID_80, NULL, NO, 1, 0xfed80000, 0, 0, 0, 0)}};
+                   {IDS, GOOD(get_hpet, HPET_ID_80, NULL, NO, 1, HPET_OF_ZEROS(0xfed80000))}};
 #endif

@@ -13,9 +13,9 @@
     } \
     static const struct call call_##verb = {#verb, run_##verb, fields, sizeof(type), 1};
 PART(list_processors_from, processor, of_processor)
-PART(list_gic_cpu_interfaces_from, interface, of_interface)
+PART(list_gic_cpu_interfaces_from, interface, of_gic_cpu_interface)
 PART(list_rintcs_from, rintc, of_rintc)
-PART(list_processor_affinities_from, near_processor, of_near_processor)
+PART(list_processor_affinities_from, near_processor, of_processor_affinity)
 
 /* From an item on there is none. */
 #define PAST(call, machine, from, all) {&call_##call, machine, NULL, A(from, all), ZACPI_OK, NULL, 0, NULL, 0}

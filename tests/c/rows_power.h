@@ -5,12 +5,6 @@
 typedef struct zacpi_sleep_types sleep_pair;
 typedef struct zacpi_plan plan;
 
-#define OF_STEP(n) F(plan, steps[n].at.at.address), F(plan, steps[n].at.at.space), F(plan, steps[n].at.at.bit_width), \
-    F(plan, steps[n].at.at.bit_offset), F(plan, steps[n].at.at.access_size), F(plan, steps[n].at.present), \
-    F(plan, steps[n].mask), F(plan, steps[n].value), F(plan, steps[n].width), F(plan, steps[n].kind)
-FIELDS(of_sleep_types, F(sleep_pair, a), F(sleep_pair, b));
-FIELDS(of_plan, OF_STEP(0), OF_STEP(1), OF_STEP(2), OF_STEP(3), OF_STEP(4), OF_STEP(5), OF_STEP(6), OF_STEP(7),
-       F(plan, count));
 ONE(get_sleep_types, sleep_pair, of_sleep_types, ARGUMENT(0, uint32_t))
 ONE(get_sleep_plan, plan, of_plan, ARGUMENT(0, uint32_t))
 ONE(get_power_off_plan, plan, of_plan, )

@@ -145,6 +145,9 @@ def main():
     erase = command('erase')
     (folder / 'src').mkdir(parents=True, exist_ok=True)
     copy_packages(erase, folder)
+    library = folder / 'rust/src/lib.rs'
+    # The exports name functions by their crates.
+    library.write_text(re.sub(r'(?m)^mod (?=c_)', '#[allow(missing_docs)]\npub mod ', library.read_text()))
     (folder / 'src/exports.rs').write_text(exports(erase))
     homes = {name: path.stem for path in EXPORTS.glob('*.rt')
              for name in re.findall(r'fn (zacpi_\w+)', path.read_text())}

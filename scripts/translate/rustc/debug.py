@@ -53,7 +53,7 @@ class Debug:
         return self.field(self.field(node, 'file'), 'filename')
 
     def path(self, function):
-        """A function's name with its crate and modules: acpi_c_lib.apics.processors."""
+        """A function's name with its crate and modules: acpi_c_interrupts.apics.processors."""
         parts, scope = [plain(self.field(function, 'name'))], self.field(function, 'scope')
         while scope in self.text:
             if self.kind(scope) in ('DINamespace', 'DICompositeType', 'DISubprogram'):

@@ -26,10 +26,10 @@ NEEDED = ['3str8converts9from_utf8']
 UNUSED = ['rust_eh_personality']
 # What functions are marked as: a part of each caller, none of any (which scripts/translate/ir2c then decides), or
 # small. An entry of a MADT goes into its walks.
-MARKED = {r'acpi_c_lib\.opening\.find_rsdp': 'alwaysinline', r'acpi_base\.bytes\.is_other_text': 'optsize',
+MARKED = {r'acpi_c_lib\.opening\.find_rsdp': 'alwaysinline', r'acpi_bytes\.bytes\.is_other_text': 'optsize',
           r'acpi\.rsdp\.Rsdp\.summed_length': 'noinline',
           r'acpi_base\.tables\.madt\.entry\.MadtEntry\.read': 'alwaysinline'}
-VECTORS = r'acpi_base\.table\.sum\.has_vectors'
+VECTORS = r'acpi_bytes\.sum\.has_vectors'
 
 
 def ends_with(symbol, words):

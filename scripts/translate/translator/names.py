@@ -15,22 +15,22 @@ from pathlib import Path
 # - inlined, what is made a part of its callers, or of those that the row names; others call a copy that is apart;
 # - started, what chooses by a source's start: there ZACPI_NO_SEARCH makes those of searches unknown ones.
 NAMES = [
-    # acpi_base proves its sum of bytes for either answer. Here that is one of whoever compiles the C.
-    ('either', r'acpi_base\.table\.sum\.has_vectors'),
-    ('noinline', r'acpi_base\.table\.sum\.byte_sum'),
+    # acpi_bytes proves its sum of bytes for either answer. Here that is one of whoever compiles the C.
+    ('either', r'acpi_bytes\.sum\.has_vectors'),
+    ('noinline', r'acpi_bytes\.sum\.byte_sum'),
     # Each call but one looks an RSDP up at one place.
     ('alwaysinline', r'acpi_c_lib\.opening\.find_rsdp'),
     # A text that isn't ASCII is rare: its loops aren't unrolled.
-    ('optsize', r'acpi_base\.bytes\.is_other_text'),
+    ('optsize', r'acpi_bytes\.bytes\.is_other_text'),
 
     ('cold', r'acpi\.platform\.timer\..*'),
     ('cold', r'acpi\.rsdp\.(?:bios\.|Rsdp\.search_).*'),
-    ('cold', r'acpi_base\.bytes\.(?:is_other_text|rest_of)\b.*'),
+    ('cold', r'acpi_bytes\.bytes\.(?:is_other_text|rest_of)\b.*'),
     ('cold', r'acpi_c_lib\.faults\..*'),
-    ('cold', r'acpi_c_lib\.power\..*'),
-    ('cold', r'acpi_c_lib\.(?:devices\.optional_register|fixed\.|refusal\.).*'),
+    ('cold', r'acpi_c_lib\.refusal\..*'),
+    ('cold', r'acpi_c_devices\.(?:devices\.optional_register|fixed\.|power\.).*'),
     ('cold', r'acpi_sleep\..*'),
-    ('cold', r'acpi_writer\..*'),
+    ('cold', r'acpi_(?:table_)?writer\..*'),
     ('cold', r'zacpi_\d+_get_\w+_plan'),
     ('cold', r'zacpi_\d+_get_(?:fixed_hardware|pm_timer|sleep_types)'),
     ('cold', r'zacpi_\d+_list_(?:faults|missing_ranges|ranges)'),
@@ -41,7 +41,7 @@ NAMES = [
     ('inlined', r'acpi\.rsdp\.Rsdp\.summed_length'),
     ('inlined', r'acpi\.rsdp\.check_mapped', r'acpi_c_lib\.opening\.root_pointer'),
     ('inlined', r'acpi\.tables\.AcpiTables\.own_sdt_at'),
-    ('inlined', r'acpi_base\.table\.header\.SdtHeader\.table_length'),
+    ('inlined', r'acpi_bytes\.header\.SdtHeader\.table_length'),
     ('inlined', r'acpi_base\.table\.lookup\.claim_by', r'acpi\.tables\.AcpiTables\.own_sdt_at'),
     ('inlined', r'acpi_c_lib\.opening\.root_pointer'),
 
