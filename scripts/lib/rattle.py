@@ -1,9 +1,10 @@
 # SPDX-License-Identifier: MIT
-"""What Rattle's text has beyond Rust's, for scripts/erase: `erased(text)` drops it, respells the few constructs that Rust
-spells otherwise, and stops at what it knows nothing of (`Unknown`).
+"""What Rattle's text has beyond Rust's, for scripts/erase: `erased(text)` drops it, respells the few constructs that
+Rust spells otherwise, and stops at what it knows nothing of (`Unknown`).
 
-Dropped: `ghost` members, fields and imports; `requires` and `ensures`; the attributes `tactic` and `cycle`; the `Drop` of
-derives and bounds; an `impl Model`; comments that are directly above what is dropped. Respelled: what RESPELLED lists."""
+Dropped: `ghost` members, fields and imports; `requires` and `ensures`; the attributes `tactic` and `cycle`; the `Drop`
+of derives and bounds; an `impl Model`; comments that are directly above what is dropped. Respelled: what RESPELLED
+lists."""
 import re
 from pathlib import Path
 
@@ -22,7 +23,8 @@ EXPORTED = '#[unsafe(no_mangle)]'
 CORE = {'borrow', 'cell', 'char', 'cmp', 'convert', 'error', 'fmt', 'hash', 'iter', 'marker', 'mem', 'ops', 'option',
         'result', 'slice', 'str', 'array'}
 # Those that a caller of the eraser gives a place of its own, since what allocates is passed an allocator.
-OWN = {'alloc', 'collections', 'vec', 'string', 'boxed', 'num', 'io', 'fs', 'env', 'process', 'os', 'rt', 'simd', 'time'}
+OWN = {'alloc', 'collections', 'vec', 'string', 'boxed', 'num', 'io', 'fs', 'env', 'process', 'os', 'rt', 'simd',
+       'time'}
 # Rust's methods of these names take no allocator.
 METHODS = {'to_vec': 'ToVecIn', 'collect': 'CollectIn', 'read_to_end': 'ReadToEndIn'}
 # Names of Rattle's prelude that Rust's hasn't, or has of another meaning.
@@ -61,7 +63,8 @@ class Source:
         return at is not None and at >= 0 and self.is_at(at, ':') and self.is_at(at + 1, ':')
 
     def closer(self, at):
-        """The place of the bracket that closes the one at a place. In terms of contracts only brackets of its kind count."""
+        """The place of the bracket that closes the one at a place. In terms of contracts only brackets of its kind
+        count."""
         opened, depth = self.tokens[at][1], 0
         for i in range(at, len(self.tokens)):
             if self.tokens[i][0] == 'sign':
@@ -159,7 +162,8 @@ class Source:
                 self.drop(i, self.with_space(self.after(i)), False)
 
     def bound(self, at):
-        """Drops a bound `Drop`: of `T: Drop`, `T: Drop + U`, `T: U + Drop`. A trait's becomes `Sized`, as its types are."""
+        """Drops a bound `Drop`: of `T: Drop`, `T: Drop + U`, `T: U + Drop`. A trait's becomes `Sized`, as its types
+        are."""
         before, after = self.before(at), self.after(at)
         if self.is_at(before, '+'):
             self.drop(before - (self.tokens[before - 1][0] == 'space'), at, False)
@@ -181,8 +185,9 @@ class Source:
                 self.global_allocator(at)
 
     def global_allocator(self, at):
-        """Drops a parameter `NAME: Global`: the global allocator is any code's in Rust, so the body names it itself, and a
-        call `::new(NAME, ..)` in it isn't passed it. Such a function is there only if there is a global allocator."""
+        """Drops a parameter `NAME: Global`: the global allocator is any code's in Rust, so the body names it itself,
+        and a call `::new(NAME, ..)` in it isn't passed it. Such a function is there only if there is a global
+        allocator."""
         colon = self.before(at)
         name = self.before(colon)
         after = self.after(at)
@@ -271,8 +276,8 @@ def imports(code):
 
 
 def erased(text, is_library):
-    """The text as Rust's, with `std` still as Rattle has it, and the names that it has to bring in. A library isn't passed
-    the global allocator."""
+    """The text as Rust's, with `std` still as Rattle has it, and the names that it has to bring in. A library isn't
+    passed the global allocator."""
     source = Source(text)
     source.erase()
     if is_library:
