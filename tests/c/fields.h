@@ -5,8 +5,10 @@
 struct field {
     size_t at, size; /* size 0: the end */
 };
-#define F(type, name) {offsetof(type, name), sizeof ((type *)0)->name}
-#define END {0, 0}
+#define F(type, name) \
+    { offsetof(type, name), sizeof((type *)0)->name }
+#define END \
+    { 0, 0 }
 #define FIELDS(name, ...) static const struct field name[] = {__VA_ARGS__, END}
 
 static inline uint64_t number_at(const uint8_t *bytes, size_t size) {
