@@ -1,6 +1,6 @@
 -- What is escaped is text, and one byte more is escaped after others.
 use Rattle.std.proofs.Common.{◌≡◌, ◌∙◌, ℕ, ◌+◌, ◌++◌, ◌<◌, ◌==◌, Bool, true, false, List, [], ◌∷◌, length, take, ap, refl, sym, subst, lit<, if◌then◌else◌}
-use Rattle.std.proofs.lemmas.List.{take_more}
+use Rattle.acpi_base.proofs.FromStd.{append-nil, append_assoc, take_more}
 use Rattle.std.specs.Prelude.{codes, slice_index_or}
 use Rattle.acpi_dump_walk.specs.Printed.{Prints}
 use Rattle.acpi_dump_walk.specs.declared.out.Out.{Out}
@@ -37,16 +37,8 @@ html_is_text (b ∷ bytes) = text_of_byte b (html_of bytes) (html_is_text bytes)
 
 -- ---- one byte more
 
-append_nil : (xs : List ℕ) → xs ++ [] ≡ xs
-append_nil [] = refl
-append_nil (x ∷ xs) = ap (λ ys. x ∷ ys) (append_nil xs)
-
-append_assoc : (xs ys zs : List ℕ) → (xs ++ ys) ++ zs ≡ xs ++ (ys ++ zs)
-append_assoc [] ys zs = refl
-append_assoc (x ∷ xs) ys zs = ap (λ ws. x ∷ ws) (append_assoc xs ys zs)
-
 html_more : (bytes : List ℕ) (b : ℕ) → html_of (bytes ++ b ∷ []) ≡ html_of bytes ++ html_of_byte b
-html_more [] b = append_nil (html_of_byte b)
+html_more [] b = append-nil (html_of_byte b)
 html_more (x ∷ bytes) b = ap (λ ys. html_of_byte x ++ ys) (html_more bytes b)
     ∙ sym (append_assoc (html_of_byte x) (html_of bytes) (html_of_byte b))
 
@@ -73,11 +65,11 @@ module _ (old mid new : Out) (before : List ℕ) (b : ℕ) (escaped : Escapes ol
   more false is =
       let none = escaped.all (was_not mid.is_refused new.is_refused printed.refused is) in
       let whole : before ≡ escaped.front =
-      escaped.are ∙ ap (λ xs. escaped.front ++ xs) none ∙ append_nil escaped.front in
+      escaped.are ∙ ap (λ xs. escaped.front ++ xs) none ∙ append-nil escaped.front in
       record {
         front = escaped.front ++ b ∷ [];
         rest = [];
-        are = ap (λ xs. xs ++ b ∷ []) whole ∙ sym (append_nil (escaped.front ++ b ∷ []));
+        are = ap (λ xs. xs ++ b ∷ []) whole ∙ sym (append-nil (escaped.front ++ b ∷ []));
         items = items_of new.is_refused false new.bytes.items mid.bytes.items _ is printed.items
             ∙ ap (λ xs. xs ++ html_of_byte b) escaped.items
             ∙ append_assoc old.bytes.items (html_of escaped.front) (html_of_byte b)
@@ -104,7 +96,7 @@ escapes_none out = record {
   front = [];
   rest = [];
   are = refl;
-  items = sym (append_nil out.bytes.items);
+  items = sym (append-nil out.bytes.items);
   is_text = end;
   refused = λ was. was;
   all = λ isnt. refl;
