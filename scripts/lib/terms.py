@@ -180,5 +180,8 @@ class Terms:
         crate, lines = found(*kind), []
         for field, expression, comment in fields(text):
             value = deeper(self.value(tree(expression), (crate, fields_of(crate, kind[1])[field])))
-            lines.append(f'\n    {field}{f": {value}" * (value != field)},{f" // {comment}" * bool(comment)}')
+            line = f'{field}{f": {value}" * (value != field)},'
+            is_above = len(line) + len(comment) > 104  # beside it there are 120 columns, in a record of a record
+            beside = f' // {comment}' * bool(comment and not is_above)
+            lines.append(f'\n    // {comment}' * bool(comment and is_above) + f'\n    {line}{beside}')
         return f'{self.name(kind)} {{{"".join(lines)}\n}}'

@@ -79,7 +79,7 @@ hpet_record i = record {
   page_protection = protection_code i.page_protection;
 }
 
--- and the way back, for an HPET that is written
+-- the HPET to be written, which is described as C reads it
 abbrev pub hpet_info_of : records.HpetInfo → HpetInfo
 hpet_info_of i = record {
   base_address = i.base_address;

@@ -31,7 +31,7 @@ pub fn sleep_types(source: &Source<'_>, state: u32) -> Result<SleepTypes, Refusa
     })
 }
 
-/// The same as the library has them.
+/// The sleep types of a sleep state, by the DSDT and the SSDTs, whether or not they fit a byte.
 fn types_of(source: &Source<'_>, state: u32) -> Result<acpi_sleep::SleepTypes, Refusal>
     ensures { result ≡ types_below source.now state }
 {

@@ -23,7 +23,7 @@ pub fn sleep_types(source: &Source<'_>, state: u32) -> Result<SleepTypes, Refusa
     Ok(SleepTypes { a: types.a as u8, b: types.b as u8 })
 }
 
-/// The same as the library has them.
+/// The sleep types of a sleep state, by the DSDT and the SSDTs, whether or not they fit a byte.
 fn types_of(source: &Source<'_>, state: u32) -> Result<crate::sleep::SleepTypes, Refusal> {
     let memory = Mapped::new(source.regions)?;
     let tables = open(&memory, source)?;

@@ -24,7 +24,7 @@ fn is_space(code: u8) -> bool
     AddressSpace::try_from(code).is_ok()
 }
 
-/// Whether a register, or a block of general purpose events, is there: it isn't at address 0.
+/// Whether a register, or a general-purpose event block, is there: it isn't at address 0.
 fn is_there(present: u8, address: u64) -> bool
     ensures { result ≡ written.is_there present address }
 {
@@ -38,14 +38,14 @@ pub(crate) fn has_codes_at(at: records::GenericAddress) -> bool
     is_space(at.space) && AccessSize::try_from(at.access_size).is_ok()
 }
 
-/// Whether `present` is 0 or 1, and so are the codes of a register that is there.
+/// Whether `present` is 0 or 1, and a register that is there has no code that is reserved.
 fn has_optional_codes(given: Register) -> bool
     ensures { result ≡ written.has_optional_codes given }
 {
     given.present <= 1 && (!is_there(given.present, given.at.address) || has_codes_at(given.at))
 }
 
-/// The same of a block of general purpose events.
+/// Whether `present` is 0 or 1, and a general-purpose event block that is there has no address space that is reserved.
 fn has_gpe_codes(given: GpeBlock) -> bool
     ensures { result ≡ written.has_gpe_codes given }
 {

@@ -121,7 +121,8 @@ pub fn contents(h: &FixedHardware) -> FadtContents
             rtc_sts_is_valid_after_wakeup_from_s4: has_bit(h.flags as u64, 16), // S4_RTC_STS_VALID
             ospm_may_leave_gpe_wake_events_armed_before_s5: has_bit(h.flags as u64, 17), // REMOTE_POWER_ON_CAPABLE
             lapics_must_use_cluster_model_for_logical_mode: has_bit(h.flags as u64, 18), // FORCE_APIC_CLUSTER_MODEL
-            local_xapics_must_use_physical_destination_mode: has_bit(h.flags as u64, 19), // FORCE_APIC_PHYSICAL_DESTINATION_MODE
+            // FORCE_APIC_PHYSICAL_DESTINATION_MODE
+            local_xapics_must_use_physical_destination_mode: has_bit(h.flags as u64, 19),
             no_benefit_to_s3: has_bit(h.flags as u64, 21), // LOW_POWER_S0_IDLE_CAPABLE
         },
         pc_boot: PcBootFeatures {

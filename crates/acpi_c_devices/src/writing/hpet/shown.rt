@@ -5,7 +5,7 @@ ghost use Rattle.acpi_c_devices.specs.Devices.{hpet_info_of};
 use crate::records::HpetInfo;
 use acpi::hpet::PageProtection;
 
-/// And the way back, for an HPET that is written.
+/// The HPET to be written, which is described as C reads it.
 pub fn hpet_info_of(i: &HpetInfo) -> acpi::HpetInfo
     ensures { result ≡ hpet_info_of i.now }
 {

@@ -4,7 +4,7 @@
 use crate::acpi::hpet::PageProtection;
 use crate::c_devices::records::HpetInfo;
 
-/// And the way back, for an HPET that is written.
+/// The HPET to be written, which is described as C reads it.
 pub fn hpet_info_of(i: &HpetInfo) -> crate::acpi::HpetInfo {
     crate::acpi::HpetInfo {
         base_address: i.base_address,
