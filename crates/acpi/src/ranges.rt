@@ -2,7 +2,7 @@
 ghost use Rattle.std.specs.Prelude.{◌≡◌, ◌≤◌, IfOk, ◌∷◌, ◌++◌, [], filter_map};
 ghost use Rattle.acpi_base.specs.FromStd.{result_ok, cons_option, YieldsFirst, item_count};
 ghost use Rattle.std.proofs.Props.{props};
-ghost use Rattle.acpi_base.specs.Words.{Allows, own_table_ranges, Gives};
+ghost use Rattle.acpi_base.specs.Words.{Allows, own_table_ranges};
 ghost use Rattle.acpi.specs.Footprint.{header_ranges};
 ghost use Rattle.acpi.specs.Places.{facs_at, facs_length, facs_ranges, place_at};
 ghost use Rattle.acpi.specs.Pointers.{pointers_left};

@@ -4,7 +4,7 @@ use Rattle.acpi_base.specs.FromStd.{is_some}
 use Rattle.acpi_base.specs.Words.{◌>>=◌, sdt_kind}
 use Rattle.acpi.specs.Types.{DMAR, IVRS}
 use Rattle.acpi_iommu.specs.Words.{blocks_of, dmar_at, find_block, find_source, find_unit, includes_pci_all, memory_in, register_bytes, reserved_in, structures_of}
-use Rattle.acpi_c_devices.specs.Types.{Dmar, DmarFlags, Drhd, Rmrr, Hop, UnitSource, IommuError, Ivhd, Ivmd, DeviceUnit, DmarReserved, DmarSource, DmarUnit, IvrsDevice, IvrsMemory, IvrsUnit, InvalidIommuMemoryRange, InvalidIommuStructureLength, NoIommu, Refusal, Source}
+use Rattle.acpi_c_devices.specs.Types.{Dmar, DmarFlags, Drhd, Rmrr, Hop, UnitSource, IommuError, Ivhd, Ivmd, DeviceUnit, DmarReserved, DmarSource, DmarUnit, IvrsDevice, IvrsMemory, IvrsUnit, NoIommu, Refusal, Source}
 use Rattle.acpi_c_lib.specs.Answers.{flag, result_map}
 use Rattle.acpi_c_lib.specs.Below.{first_table}
 use Rattle.acpi_c_lib.specs.Refusals.{iommu_refusal}

@@ -12,7 +12,7 @@ use Rattle.acpi_sleep.specs.declared.sleep.SleepAnswer.TheVariants as answers
 use Rattle.acpi_c_lib.specs.Answers.{flag}
 use Rattle.acpi_c_lib.specs.Below.{below, first_table}
 use Rattle.acpi_c_devices.specs.Devices.{optional_register}
-use Rattle.acpi_c_devices.specs.Types.{Plan, PlanError, PlanStep, SleepError, SleepTypes, Step, StepKind, Refusal, Source, Acpi, AmlInvalid, NoRegister, NoReset, NoSuchState, SleepStateAbsent, SleepStateNotSeen, SleepTypeTooHigh}
+use Rattle.acpi_c_devices.specs.Types.{Plan, PlanError, PlanStep, SleepError, SleepTypes, Step, StepKind, Refusal, Source, NoSuchState, SleepStateAbsent, SleepStateNotSeen, SleepTypeTooHigh}
 use Rattle.acpi_c_devices.specs.Records as records
 use Rattle.acpi_c_lib.specs.Refusals.{plan_refusal, sleep_refusal}
 

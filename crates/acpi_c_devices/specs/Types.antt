@@ -70,17 +70,11 @@ pub use Rattle.acpi_c_lib.specs.declared.entry_faults.EntryFault.{EntryFault}
 pub use Rattle.acpi_c_lib.specs.declared.records.Source.{Source}
 pub use Rattle.acpi_c_lib.specs.declared.refusal.Refusal.{Refusal}
 pub use Rattle.acpi_c_lib.specs.declared.refusal.Refusal.TheVariants.{
-  Acpi,
-  AmlInvalid,
-  InvalidIommuMemoryRange,
-  InvalidIommuStructureLength,
   InvalidMemoryRange,
   InvalidSratEntryLength,
   NoDistance,
   NoDomain,
   NoIommu,
-  NoRegister,
-  NoReset,
   NoSuchFunction,
   NoSuchState,
   SleepStateAbsent,

@@ -75,7 +75,6 @@ pub use Rattle.acpi_c_devices.specs.IommuLists.{
   ivhd_in,
   ivhd_shown,
   ivrs_entries_below,
-  path_shown,
   scope_record,
   special_or,
   structure_in,

@@ -12,7 +12,7 @@ pub mod regions;
 pub(crate) mod shown;
 
 use crate::iommu::records::{
-    DmarFlags, DmarReserved, DmarSource, DmarUnit, Hop, IvrsDevice, IvrsMemory, IvrsUnit,
+    DmarFlags, DmarReserved, DmarSource, DmarUnit, Hop, IvrsDevice, IvrsMemory,
 };
 use acpi_c_lib::lists::{Listing, fill};
 use acpi_c_lib::opening::first;

@@ -1,7 +1,7 @@
 //! How interrupts come to the I/O APICs, by walks along the entries of the MADT.
 ghost use Rattle.std.specs.Prelude.{◌≡◌, ◌≤◌, IfSome, filter_map};
-ghost use Rattle.acpi_base.specs.Words.{bytes_of, entries_of, base_of, nearest};
-ghost use Rattle.acpi_c_interrupts.specs.Words.{apic_in, AreWirings, is_nearer, isa_below, pin_below, pin_in, sci_below};
+ghost use Rattle.acpi_base.specs.Words.{entries_of, base_of, nearest};
+ghost use Rattle.acpi_c_interrupts.specs.Words.{apic_in, is_nearer, isa_below, pin_below, sci_below};
 
 pub mod isa_list;
 mod wirings;

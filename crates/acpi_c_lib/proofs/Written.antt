@@ -1,5 +1,5 @@
 -- Lists that are written, in one part or in two, and how many items they have at most.
-use Rattle.std.proofs.Common.{◌≡◌, ◌∙◌, ◌+◌, ℕ, List, [], ◌∷◌, ◌++◌, length, length-append, slice_set, ap, sym, arith, map, ◌<◌, ◌≤◌, Option, ◌-◌, filter_map}
+use Rattle.std.proofs.Common.{◌≡◌, ◌∙◌, ◌+◌, ℕ, List, [], ◌∷◌, ◌++◌, length, length-append, slice_set, ap, sym, arith, map, ◌<◌, ◌≤◌, Option, filter_map}
 use Rattle.acpi_base.proofs.FromStd.{append-nil, length-map}
 use Rattle.acpi_c_lib.specs.Words.{Writes, put_from, IsBytes, IsEntry, number_in, Width, One, Two, Four, EntryLayout}
 use Rattle.acpi.proofs.First.{filter_map_few}

@@ -1,5 +1,5 @@
 //! Tables that are written for C, from its records, as `acpi_writer` writes them.
-ghost use Rattle.std.specs.Prelude.{◌≡◌, length, take};
+ghost use Rattle.std.specs.Prelude.{length, take};
 ghost use Rattle.acpi_c_lib.specs.Words.{AnswersPlain, signature_named};
 ghost use Rattle.acpi_c_devices.specs.Words.{facs_contents};
 ghost use Rattle.acpi_c_machine.specs.Words.{Gives, Keeps, facs_written, table_written};

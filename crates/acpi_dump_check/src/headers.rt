@@ -3,7 +3,7 @@
 use crate::devices::register_at;
 use crate::findings::Findings;
 use acpi::AcpiError;
-use acpi::sdt::{Signature, field};
+use acpi::sdt::field;
 use acpi_dump_input::entries::{Entry, own_signature};
 use acpi_dump_input::status::Status;
 use acpi_dump_walk::fault::Fault;

@@ -2,7 +2,7 @@
 ghost use Rattle.std.specs.Prelude.{◌<◌, length};
 
 use acpi_dump_walk::aml::constant::name_in;
-use acpi_dump_walk::fields::{number_of, print_hex, print_segments};
+use acpi_dump_walk::fields::{number_of, print_segments};
 use acpi_dump_walk::out::Out;
 use acpi_sleep::AmlError;
 use acpi_sleep::term::{Part, parts_end};

@@ -14,7 +14,5 @@ abbrev pub reading_of : Reading → Tables
 reading_of r = record {
   complete = tables_in r.complete.items;
   current = option_map spelled_of r.current;
-  stated_length
-      =
-      r.stated_length;
+  stated_length = r.stated_length;
 }

@@ -1,6 +1,6 @@
 //! A row of a table in the text of acpidump or acpiview: its offset, a colon, and up to 16 pairs of hexadecimal digits.
-ghost use Rattle.std.specs.Prelude.{◌≡◌, ◌<◌, ◌==◌, IfOk, IfSome, Some, None, if◌then◌else◌, length, option_map};
-ghost use Rattle.acpi_base.specs.FromStd.{after_first, before_first, digit_value, is_digit};
+ghost use Rattle.std.specs.Prelude.{◌≡◌, ◌==◌, IfOk, Some, None, if◌then◌else◌, option_map};
+ghost use Rattle.acpi_base.specs.FromStd.{after_first, before_first};
 ghost use Rattle.acpi_dump_input.specs.DumpText.{after_dash, begins_with_gap, byte_of as pair_byte, first_pair as pair_of, is_gap, offset_of, row_of, with_pairs};
 
 use acpi_cli::number_of;

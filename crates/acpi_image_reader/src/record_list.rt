@@ -1,7 +1,6 @@
 //! The records of a file, in its order and by their starts.
 ghost use Rattle.std.proofs.Props.{props};
 ghost use Rattle.std.specs.Prelude.{◌≡◌, ◌<◌, [], ◌∷◌, ◌++◌, false, IfErr, OnOk};
-ghost use Rattle.acpi_base.specs.Words.{Memory};
 ghost use Rattle.acpi_image_reader.specs.Image.{shares_any};
 ghost use Rattle.acpi_image_reader.specs.Regions.{region_of, regions_of};
 ghost use Rattle.acpi_image_reader.specs.declared.error.ImageError.TheVariants.{OutOfMemory};

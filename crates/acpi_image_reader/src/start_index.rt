@@ -1,8 +1,8 @@
 //! The starts of regions, in ascending order: the region that an address can be in is found without a
 //! walk along the others.
-ghost use Rattle.std.specs.Prelude.{◌≡◌, ◌<◌, ◌≤◌, ℕ, List, Some, None, IsSome, IfSome, IfNone, OnOk, IfErr, [], ◌∷◌, ◌++◌, false, length};
+ghost use Rattle.std.specs.Prelude.{◌≡◌, ◌<◌, ◌≤◌, ℕ, List, Some, None, IsSome, IfSome, IfNone, OnOk, [], ◌∷◌, ◌++◌, false, length};
 ghost use Rattle.acpi_base.specs.FromStd.{get, nat_cmp};
-ghost use Rattle.acpi_base.specs.Words.{Memory, Region};
+ghost use Rattle.acpi_base.specs.Words.{Memory};
 ghost use Rattle.acpi_image_reader.specs.Words.{shares_any, ListsStarts};
 
 use std::alloc::{AllocError, Allocator};

@@ -1,14 +1,14 @@
 -- The registers of a FADT are its bytes'; the processors, and the platform, are the tables'.
-use Rattle.std.proofs.Common.{◌≡◌, ◌≢◌, ◌⊎◌, ℕ, Bool, true, false, List, [], ◌∷◌, Option, Some, None, Result, Ok, Err, refl, ap, All, filter_map, map, inl, inr}
+use Rattle.std.proofs.Common.{◌≡◌, ◌≢◌, ◌⊎◌, ℕ, Bool, true, false, List, [], ◌∷◌, Option, None, Result, Ok, Err, refl, ap, All, filter_map, map, inl, inr}
 use Rattle.acpi_base.proofs.FromStd.{All-cons, All-nil}
-use Rattle.acpi_base.specs.Words.{Memory, Model, model_of, processor_in, processors_of, state_of, ◌>>=◌}
+use Rattle.acpi_base.specs.Words.{Memory, Model, model_of, processor_in, state_of, ◌>>=◌}
 use Rattle.acpi_base.specs.declared.model.item.MadtItem.TheVariants as item
 use Rattle.acpi.specs.Types.{AcpiError, Unknown, MadtItem, Processor, Running, WaitingForSipi}
 use Rattle.acpi.specs.declared.platform.PlatformInfo.{PlatformInfo}
 use Rattle.acpi.specs.declared.platform.timer.PmTimer.{PmTimer}
-use Rattle.acpi.specs.Words.{fadt_kind, lookup, madt_kind, model_in, or_later, platform_of, timer_of}
+use Rattle.acpi.specs.Words.{fadt_kind, lookup, madt_kind, model_in, or_later, timer_of}
 use Rattle.acpi_fixed.specs.Words.{fadt_at, profile_of}
-use Rattle.acpi_laws.specs.PlatformLaws.{FirstBoots, HaveRoles, IsPlatform, ListedOnce, PlatformIsTheirs, RegistersAreTheTables, ids_in, ids_of}
+use Rattle.acpi_laws.specs.PlatformLaws.{FirstBoots, IsPlatform, ListedOnce, PlatformIsTheirs, RegistersAreTheTables, ids_in, ids_of}
 
 pub registers_are : RegistersAreTheTables
 unfolding fadt_at

@@ -1,5 +1,5 @@
 //! Files as a program requests them: each name that it requests is listed, with the bytes that were read.
-ghost use Rattle.std.specs.Prelude.{◌≡◌, ◌++◌, ◌∷◌, ℕ, List, [], IfOk, OnErr, OnOk, Option, length, map, option_copied};
+ghost use Rattle.std.specs.Prelude.{◌≡◌, ◌++◌, ◌∷◌, ℕ, List, [], OnErr, OnOk, Option, length, map, option_copied};
 ghost use Rattle.acpi_pack_lib.specs.Reads.{FileRead, read_of};
 
 use std::alloc::AllocError;

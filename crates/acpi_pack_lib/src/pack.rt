@@ -3,7 +3,7 @@ ghost use Rattle.std.specs.Prelude.{◌≡◌, ◌+◌, ◌^◌, ◌<◌, ◌≤
 ghost use Rattle.acpi_base.specs.FromStd.{list_any};
 ghost use Rattle.acpi.specs.declared.root.RootKind.TheVariants.{Xsdt};
 ghost use Rattle.acpi_base.specs.Words.{IsBytes, end_of, Gives};
-ghost use Rattle.acpi_image_reader.specs.Words.{record_spelling, share, shares_any};
+ghost use Rattle.acpi_image_reader.specs.Words.{record_spelling, share};
 ghost use Rattle.acpi_image.specs.Words.{placed, placed_region, root_length};
 ghost use Rattle.acpi_pack_lib.specs.Words.{contents, region_at, RefusesOrRunsOut, all_regions, check_place, check_places, file_of, fixed_of, laid_out, packed_files, packed_tables, regions, IsMemoryFile, IsPacked, entries, listed, OutOfMemory, Dsdt};
 ghost use Rattle.acpi_pack_lib.specs.Pack as pack;

@@ -1,5 +1,5 @@
 //! The package that a sleep state's name is set to (section 7.4.2).
-ghost use Rattle.std.specs.Prelude.{◌≡◌, ◌≤◌, length, take};
+ghost use Rattle.std.specs.Prelude.{◌≡◌, ◌≤◌, length};
 ghost use Rattle.acpi_sleep.specs.Words.{elements_at, types_at};
 
 use crate::argument::{integer_at, operand_end};

@@ -4,7 +4,7 @@ use Rattle.acpi_base.proofs.FromStd.{leb-true, ltb-true, All-more, take-put_mid,
 use Rattle.std.proofs.lemmas.List.{get_or-map}
 use Rattle.acpi_base.proofs.Words.{holds_ok, same_ok}
 use Rattle.acpi_table_writer.specs.Words.{◌>>=◌, Signature, most, or_none, sized, is_empty, are_texts, table_bytes, table_written, checked_written, WriterError, TableIds, SratContents, GicContents, MadtContents, gic_meant, madt_meant, srat_meant, Measures}
-use borrow.Rule.Slice.PartMut.{post_of, put_mid}
+use borrow.Rule.Slice.PartMut.{put_mid}
 
 -- ---- more room, and less
 

@@ -1,5 +1,5 @@
 //! The High Precision Event Timer table (HPET), from what it contains of its event timer block.
-ghost use Rattle.std.specs.Prelude.{◌≡◌, length, take, IfOk, Ok};
+ghost use Rattle.std.specs.Prelude.{length, take, IfOk, Ok};
 ghost use Rattle.acpi_table_writer.specs.Hpet as bytes;
 ghost use Rattle.acpi_table_writer.specs.Words.{HPET, Gives, IsHpet, Keeps};
 

@@ -1,5 +1,5 @@
 //! The PCI Express memory mapped configuration space table (MCFG), from its regions.
-ghost use Rattle.std.specs.Prelude.{◌≡◌, length, map, take, IfOk, Ok, All};
+ghost use Rattle.std.specs.Prelude.{length, map, take, IfOk, Ok, All};
 ghost use Rattle.acpi_table_writer.specs.Words.{MCFG, Gives, FitsMcfg, IsMcfg, Keeps};
 ghost use Rattle.acpi_table_writer.specs.Mcfg as bytes;
 

@@ -1,6 +1,6 @@
 //! A table from its header's fields and the bytes after its header (section 5.2.6).
-ghost use Rattle.std.specs.Prelude.{◌≡◌, ℕ, ◌+◌, ◌^◌, ◌<◌, ◌≤◌, ◌++◌, drop, length, take, true, IfOk, List, Ok, Result};
-ghost use Rattle.acpi_table_writer.specs.Words.{Gives, letters_of, with_sum, most, AreIds, are_texts, sized, IsTableOf, Keeps, checked_written, table_bytes, table_head, table_written, Signature, WriterError};
+ghost use Rattle.std.specs.Prelude.{◌≡◌, ℕ, ◌+◌, ◌^◌, ◌<◌, ◌≤◌, ◌++◌, length, take, true, IfOk, List, Ok, Result};
+ghost use Rattle.acpi_table_writer.specs.Words.{Gives, most, AreIds, are_texts, sized, IsTableOf, Keeps, checked_written, table_bytes, table_head, table_written, Signature, WriterError};
 
 use crate::checked::require;
 use crate::error::WriterError;

@@ -1,5 +1,5 @@
 //! The root tables: the RSDT (section 5.2.7) and the XSDT (section 5.2.8), from the addresses of the tables.
-ghost use Rattle.std.specs.Prelude.{◌≡◌, length, take, IfOk};
+ghost use Rattle.std.specs.Prelude.{length, take, IfOk};
 ghost use Rattle.acpi_writer.specs.Words.{Rsdt, Xsdt, Gives, IsRoot, root_written, Keeps};
 
 use acpi_base::Signature;

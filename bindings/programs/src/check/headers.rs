@@ -11,7 +11,7 @@ use crate::walk::fields::unnamed_in;
 use crate::walk::language::{cut_at, is_chosen, next_word, number_of};
 use crate::walk::walk::{Field, Show, walk_table};
 use zacpi::AcpiError;
-use zacpi::sdt::{Signature, field};
+use zacpi::sdt::field;
 
 pub(crate) const RULES: &str = "
 header-sum error ACPI 6.5, section 5.2.6 | The bytes of a table don't sum to 0

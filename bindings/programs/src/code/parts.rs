@@ -3,7 +3,7 @@
 
 use crate::rattle::Pieces;
 use crate::walk::aml::constant::name_in;
-use crate::walk::fields::{number_of, print_hex, print_segments};
+use crate::walk::fields::{number_of, print_segments};
 use crate::walk::out::Out;
 use zacpi::sleep::AmlError;
 use zacpi::sleep::term::{Part, parts_end};

@@ -8,9 +8,7 @@ pub mod records;
 pub mod regions;
 pub(crate) mod shown;
 
-use crate::c_devices::iommu::records::{
-    DmarFlags, DmarReserved, DmarSource, DmarUnit, Hop, IvrsDevice, IvrsMemory, IvrsUnit,
-};
+use crate::c_devices::iommu::records::{DmarFlags, DmarReserved, DmarSource, DmarUnit, Hop, IvrsDevice, IvrsMemory};
 use crate::c_lib::lists::{Listing, fill};
 use crate::c_lib::opening::first;
 use crate::c_lib::records::Source;

@@ -1,5 +1,5 @@
 //! The search for the RSDP in areas that a caller passes, if firmware maps less than whole areas.
-ghost use Rattle.std.specs.Prelude.{◌≡◌, ◌<◌, ◌≤◌, ◌^◌, ◌+◌, ◌*◌, ℕ, Ok, true, IfErr, IfOk, IfSome, option_map, IsOk};
+ghost use Rattle.std.specs.Prelude.{◌≡◌, ◌<◌, ◌≤◌, ◌^◌, ◌+◌, ◌*◌, ℕ, Ok, IfErr, IfOk, IfSome, option_map, IsOk};
 ghost use Rattle.acpi_base.specs.Words.{IsOfMemory, bytes_of, handler_of, start_of, Allows, Footprint, Gives, lent};
 ghost use Rattle.acpi.specs.Words.{areas_ranges, count_in, first_in, is_refused_in, walk_in, IsSearchedIn, found_in_areas, rsdp_ranges, walk_ranges, rsdp_at, IsRefused, placed, walk};
 ghost use Rattle.acpi.specs.Areas as areas;

@@ -1,5 +1,5 @@
 //! The places of the tables, all tables of a type, and a lookup by a signature.
-ghost use Rattle.std.specs.Prelude.{◌≡◌, ◌^◌, ◌<◌, ◌≤◌, ◌+◌, List, Ok, IfOk, length, map};
+ghost use Rattle.std.specs.Prelude.{◌≡◌, ◌^◌, ◌<◌, ◌≤◌, ◌+◌, Ok, IfOk, length, map};
 ghost use Rattle.acpi_base.specs.FromStd.{result_ok};
 ghost use Rattle.acpi_base.specs.Words.{IsLentOf, claimed_at, claimed_from, own_accepted, own_accepted_ranges, sdt_kind, shown_by, table_at, table_ranges, IsOfMemory, bytes_of, handler_of, start_of, Allows, Footprint, Gives, plain_kind};
 ghost use Rattle.acpi_fixed.specs.Words.{viewed};

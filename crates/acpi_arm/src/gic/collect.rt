@@ -1,5 +1,5 @@
 //! The walks along the entries of a MADT: for the distributor, and for each list.
-ghost use Rattle.std.specs.Prelude.{◌≡◌, ◌<◌, ◌≤◌, length, [], IfOk, IfErr, vec_capacity, vec_len};
+ghost use Rattle.std.specs.Prelude.{◌≡◌, ◌<◌, length, [], IfOk, IfErr, vec_capacity, vec_len};
 ghost use Rattle.acpi_base.specs.Words.{field_of};
 ghost use Rattle.acpi_arm.specs.Gic.{distributor_of, items_of};
 

@@ -2,7 +2,7 @@
 ghost use Rattle.std.specs.Prelude.{◌≡◌, Some, map, option_map, refl};
 ghost use Rattle.acpi_iommu.specs.Words.{block_bytes, bytes_of_entry, bytes_of_scope, entries_left, entries_of, hops_left, path_of, scopes_left, scopes_of, structure_bytes};
 ghost use Rattle.acpi_c_lib.specs.Words.{Fills, Writes, lists_by};
-ghost use Rattle.acpi_c_devices.specs.Words.{dmar_scopes_below, structure_scopes_below, entry_shown, hid_part, ivhd_in, ivrs_entries_below, path_shown, scope_record, special_or, structure_in};
+ghost use Rattle.acpi_c_devices.specs.Words.{dmar_scopes_below, structure_scopes_below, entry_shown, hid_part, ivhd_in, ivrs_entries_below, scope_record, special_or, structure_in};
 
 use crate::iommu::records::{DmarScope, Hop, IvrsEntry};
 use crate::known::Nothing;

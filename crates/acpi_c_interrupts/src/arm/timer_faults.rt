@@ -1,5 +1,5 @@
 //! The structures of platform timers of a GTDT at fault, and where none begins.
-ghost use Rattle.std.specs.Prelude.{◌≡◌, ◌+◌, ◌^◌, ◌<◌, length};
+ghost use Rattle.std.specs.Prelude.{◌+◌, ◌^◌, ◌<◌, length};
 ghost use Rattle.acpi_c_lib.specs.Words.{Fills, Writes};
 ghost use Rattle.acpi_c_interrupts.specs.Words.{gtdt_faults_below, gtdt_faults_of};
 

@@ -1,7 +1,7 @@
 //! How Interrupt Source Overrides of the ISA bus wire the ISA interrupts and the SCI, found by one walk along the
 //! entries of a MADT (section 5.2.12.5).
 ghost use Rattle.std.specs.Prelude.{◌≡◌};
-ghost use Rattle.acpi_base.specs.Words.{entries_of, polarity_for, trigger_for};
+ghost use Rattle.acpi_base.specs.Words.{entries_of};
 ghost use Rattle.acpi_c_interrupts.specs.Words.{AreWirings, MadtEntry, has_codes, interrupt_record, isa_in, isa_override_in, sci_in};
 
 mod shown;

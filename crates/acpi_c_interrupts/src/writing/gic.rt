@@ -1,5 +1,5 @@
 //! The MADT of an Arm machine that is written for C (sections 5.2.12.14 to 5.2.12.18), from its records of the GIC.
-ghost use Rattle.std.specs.Prelude.{◌≡◌, ◌&&◌, ◌^◌, ◌<◌};
+ghost use Rattle.std.specs.Prelude.{◌≡◌, ◌&&◌, ◌<◌};
 ghost use Rattle.acpi_c_lib.specs.Words.{is_short};
 ghost use Rattle.acpi_c_interrupts.specs.Words.{list_all, is_wiring};
 ghost use Rattle.acpi_c_interrupts.specs.WrittenGic as written;

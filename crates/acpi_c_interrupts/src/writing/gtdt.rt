@@ -8,7 +8,7 @@ ghost use Rattle.acpi_c_interrupts.specs.WrittenGtdt as written;
 mod shown;
 
 use super::madt::is_wiring;
-use crate::arm::records::{ArmTimer, GtFrame, Watchdog};
+use crate::arm::records::{ArmTimer, GtFrame};
 use crate::written_records::{GtdtContents, PlatformTimer};
 use acpi_arm::gtdt;
 use acpi_base::model::{Polarity, TriggerMode};

@@ -1,6 +1,6 @@
 //! Devices, processors and events (ACPI 6.5, sections 5.2.12, 5.6.4.1 and 6.1.12).
 
-use super::names::{Named, Names, ROOT};
+use super::names::{Names, ROOT};
 use super::values::text_in;
 use crate::findings::Findings;
 use crate::machine::Machine;

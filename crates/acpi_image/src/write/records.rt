@@ -3,7 +3,7 @@ ghost use Rattle.std.specs.Prelude.{◌≡◌, ◌^◌, ◌<◌, ◌≤◌, ◌+
 ghost use Rattle.acpi.specs.Words.{kind_of_revision, signature_of, width_of};
 ghost use Rattle.acpi_base.specs.Words.{IsBytes, spelling};
 ghost use Rattle.acpi_image_reader.specs.Words.{record_spelling};
-ghost use Rattle.acpi_image.specs.Words.{HasFront, placed, placed_region, plan, records_of, root_header, root_length, root_record, root_to, root_unsummed, rsdp_record, rsdp_to, rsdp_unsummed, starts_of, summed, with_sum, OutOfMemory};
+ghost use Rattle.acpi_image.specs.Words.{HasFront, placed, placed_region, plan, records_of, root_header, root_length, root_record, root_to, root_unsummed, rsdp_record, rsdp_to, starts_of, summed, OutOfMemory};
 
 use crate::error::WriteError;
 use crate::sums::{dword, rsdp_to, set_sum};

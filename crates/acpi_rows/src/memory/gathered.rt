@@ -18,7 +18,7 @@ use acpi::{AcpiHandler, AcpiResult, AcpiTables, Lender};
 use acpi_arm::gic::GicModel;
 use acpi_numa::MemoryAffinities;
 use linked_list_allocator::LocalHeap;
-use std::alloc::{AllocError, Allocator};
+use std::alloc::Allocator;
 use std::fmt::Debug;
 
 /// A call over tables that are open.

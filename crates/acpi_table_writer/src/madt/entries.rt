@@ -1,5 +1,5 @@
 //! The parts of a MADT, each with its bytes (section 5.2.12).
-ghost use Rattle.std.specs.Prelude.{◌≡◌, ◌≤◌};
+ghost use Rattle.std.specs.Prelude.{◌≡◌};
 ghost use Rattle.acpi_table_writer.specs.MadtBytes as bytes;
 
 use super::{MadtNmiLine, MadtProcessor};
@@ -8,7 +8,7 @@ use crate::made::madt_bytes::{
     apic_nmi_fields, local_x2apic_fields, override_address_fields, wakeup_fields, x2apic_nmi_fields,
 };
 use crate::numbers::bit_of;
-use acpi_base::model::{LocalInterruptLine, NmiProcessor, Polarity, TriggerMode};
+use acpi_base::model::{NmiProcessor, Polarity, TriggerMode};
 
 /// The fields between the header and the entries.
 #[derive(Clone, Copy)]

@@ -1,5 +1,5 @@
 //! The MADT of a RISC-V machine, from its harts and interrupt controllers (ACPI 6.6, section 5.2.12).
-ghost use Rattle.std.specs.Prelude.{◌≡◌, length, take, IfOk};
+ghost use Rattle.std.specs.Prelude.{length, take, IfOk};
 ghost use Rattle.acpi_table_writer.specs.Words.{MADT, Gives, AreRiscvFit, IsRiscvMadt, Keeps, riscv_body, riscv_checked, riscv_written};
 
 use super::entries::Fixed;

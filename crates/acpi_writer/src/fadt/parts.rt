@@ -1,5 +1,5 @@
 //! The parts of a FADT, each with its bytes (section 5.2.9).
-ghost use Rattle.std.specs.Prelude.{◌≡◌, ◌<◌, ◌^◌, flat_map, All};
+ghost use Rattle.std.specs.Prelude.{◌≡◌, ◌<◌, flat_map, All};
 ghost use Rattle.acpi_writer.specs.Fadt as bytes;
 ghost use Rattle.acpi_writer.specs.Words.{SystemIo, FitsRegister, register_bytes};
 

@@ -1,7 +1,7 @@
 // Made by scripts/erase of crates/acpi_dump_check/src/aml/devices.rt, where it is proved.
 //! Devices, processors and events (ACPI 6.5, sections 5.2.12, 5.6.4.1 and 6.1.12).
 
-use super::names::{Named, Names, ROOT};
+use super::names::{Names, ROOT};
 use super::values::text_in;
 use crate::check::findings::Findings;
 use crate::check::machine::Machine;

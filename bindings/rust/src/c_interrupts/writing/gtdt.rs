@@ -6,7 +6,7 @@ mod shown;
 use super::madt::is_wiring;
 use crate::arm::gtdt;
 use crate::base::model::{Polarity, TriggerMode};
-use crate::c_interrupts::arm::records::{ArmTimer, GtFrame, Watchdog};
+use crate::c_interrupts::arm::records::{ArmTimer, GtFrame};
 use crate::c_interrupts::written_records::{GtdtContents, PlatformTimer};
 use crate::table_writer::spelled::Spelled;
 use crate::table_writer::{Checked, GtBlockContents, PlatformTimerContents, WriterError};

@@ -2,7 +2,7 @@
 //! The parts of a MADT, each with its bytes (section 5.2.12).
 
 use super::{MadtNmiLine, MadtProcessor};
-use crate::base::model::{LocalInterruptLine, NmiProcessor, Polarity, TriggerMode};
+use crate::base::model::{NmiProcessor, Polarity, TriggerMode};
 use crate::table_writer::fields::{Field, Record};
 use crate::table_writer::made::madt_bytes::{
     apic_nmi_fields, local_x2apic_fields, override_address_fields, wakeup_fields, x2apic_nmi_fields,
