@@ -6,7 +6,7 @@ use Rattle.acpi.specs.Types.{AcpiError, InvalidGenericAddress, HPET, HpetInfo, H
 use Rattle.acpi.specs.Lookup.{lookup}
 use Rattle.acpi.specs.declared.hpet.PageProtection.TheVariants as protections
 
--- what a table's bytes mean; of BASE_ADDRESS, the generic address from 40 on, the space and the address
+-- the table HPET, at least 56 bytes; of BASE_ADDRESS, the generic address from 40 on, the space and the address
 unfoldable pub hpet_at : List ℕ → HpetTable
 hpet_at b = record {
   header = header_at b;

@@ -5,7 +5,7 @@ use Rattle.acpi.specs.Types.{AcpiError, RsdpIncorrectSignature, RsdpInvalidCheck
 use Rattle.acpi_base.specs.Words.{field_of, part, sum_of, Memory, ◌>>=◌, holds, lent}
 use Rattle.acpi.specs.Root.{root_pointer}
 
--- the RSDP that the bytes begin with
+-- the RSDP that the bytes begin with, at least 36 bytes
 unfoldable pub rsdp_of : List ℕ → Rsdp
 rsdp_of b = record {
   signature = part b 0 8;  -- Signature

@@ -1,16 +1,14 @@
 //! The IA-PC High Precision Event Timer Table (HPET).
 ghost use Rattle.std.specs.Prelude.{◌≡◌, ◌+◌};
-ghost use Rattle.std.proofs.Common.{lit≤};
 ghost use Rattle.acpi_base.specs.Words.{bits_of, has_bit};
-ghost use Rattle.acpi.specs.Words.{protection_code, protection_of, hpet_at, hpet_kind, hpet_of, info_of, AllowsBelow, FootprintBelow, lookup_ranges, Relocation, of_tables};
+ghost use Rattle.acpi.specs.Words.{protection_code, protection_of, hpet_kind, hpet_of, info_of, AllowsBelow, FootprintBelow, lookup_ranges, Relocation, of_tables};
 
 mod readings;
 
 use crate::tables::AcpiTables;
 use acpi_base::bytes::{bits, has_bit};
 use acpi_base::sdt::SdtHeader;
-use acpi_base::{AcpiError, AcpiResult, Lender, PhysicalRecord, SdtTable, Signature};
-use readings::hpet_at;
+use acpi_base::{AcpiError, AcpiResult, Lender};
 
 /// The IA-PC High Precision Event Timer Table (HPET). Section 5.2.6 reserves its signature, and its layout
 /// is the IA-PC HPET Specification's. `HpetInfo` shows what it contains.
@@ -23,33 +21,6 @@ pub struct HpetTable {
     hpet_number: u8,
     clock_tick_unit: u16,
     page_protection_and_oem: u8,
-}
-
-impl PhysicalRecord for HpetTable {
-    const MIN_LENGTH: usize = 56;
-
-    ghost MIN_LENGTH = { 56 };
-
-    ghost reading = { hpet_at };
-
-    fn read(bytes: &[u8]) -> Self {
-        hpet_at(bytes)
-    }
-}
-
-impl SdtTable for HpetTable {
-    ghost use Rattle.acpi.specs.Types.{HPET};
-
-    const NAME: Signature = Signature::HPET;
-
-    ghost NAME = { HPET };
-
-    #[tactic(auto, unfolding(crate::specs::Hpet::hpet_at))]
-    fn sdt_header(&self) -> &SdtHeader {
-        &self.header
-    }
-
-    ghost least = { lit≤ tt };
 }
 
 /// Page Protection: whether accesses to the page of the timer's registers, after the registers, do no harm

@@ -13,7 +13,6 @@ use acpi_base::bytes::{byte_sum, is_text, text_of};
 use acpi_base::{AcpiError, AcpiResult, Lender, PhysicalMapping, PhysicalRecord};
 pub use areas::bios_areas;
 pub use bios::{Area, second_area};
-use readings::rsdp_of;
 
 /// The Root System Description Pointer (RSDP), by its 36 bytes (section 5.2.5.3). Revision 0 has only the
 /// first 20 of them: the fields after these mean nothing there.
@@ -27,18 +26,6 @@ pub struct Rsdp {
     length: u32,
     xsdt_address: u64,
     ext_checksum: u8,
-}
-
-impl PhysicalRecord for Rsdp {
-    const MIN_LENGTH: usize = 36;
-
-    ghost MIN_LENGTH = { 36 };
-
-    ghost reading = { rsdp_of };
-
-    fn read(bytes: &[u8]) -> Self {
-        rsdp_of(bytes)
-    }
 }
 
 impl Rsdp {

@@ -29,7 +29,7 @@ arm_timer_at b offset = record {
   always_on = has_bit (field_of b (offset + 4) 4) 2;  -- Flags, bit 2: Always-on Capability
 }
 
--- what a table's bytes mean
+-- the table GTDT, at least 96 bytes
 unfoldable pub gtdt_at : List ℕ → Gtdt
 gtdt_at b = record {
   header = header_at b;

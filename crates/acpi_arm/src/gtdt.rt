@@ -12,12 +12,11 @@ pub use crate::timers::{
     GtBlock, PlatformTimer, PlatformTimerIter, SbsaWatchdog, frames_end, is_sound, timer_bytes,
     timer_count, timers_grammar, timers_offset,
 };
+use acpi_base::PhysicalRecord;
 use acpi_base::bytes::{has_bit, u32_in};
 use acpi_base::extended::ExtendedField;
 use acpi_base::model::{Polarity, TriggerMode};
 use acpi_base::sdt::SdtHeader;
-use acpi_base::{PhysicalRecord, SdtTable, Signature};
-use readings::gtdt_at;
 
 /// A timer that every processor has, by its GSIV and its flags in a GTDT (section 5.2.24).
 #[derive(Clone, Copy, Debug)]
@@ -82,36 +81,6 @@ pub struct Gtdt {
     /// Platform Timer Offset: where these structures begin, in bytes from the table's first one.
     pub platform_timer_offset: u32,
     el2_virtual: ExtendedField<ArmTimer, 3>,
-}
-
-impl PhysicalRecord for Gtdt {
-    ghost use Rattle.acpi_arm.specs.Gtdt.{gtdt_at};
-
-    const MIN_LENGTH: usize = 96;
-
-    ghost MIN_LENGTH = { 96 };
-
-    ghost reading = { gtdt_at };
-
-    fn read(bytes: &[u8]) -> Self {
-        gtdt_at(bytes)
-    }
-}
-
-impl SdtTable for Gtdt {
-    ghost use Rattle.std.proofs.Common.{lit≤};
-    ghost use Rattle.acpi.specs.Types.{GTDT};
-
-    const NAME: Signature = Signature::GTDT;
-
-    ghost NAME = { GTDT };
-
-    #[tactic(auto, unfolding(crate::specs::Gtdt::gtdt_at))]
-    fn sdt_header(&self) -> &SdtHeader {
-        &self.header
-    }
-
-    ghost least = { lit≤ tt };
 }
 
 impl Gtdt {

@@ -60,7 +60,7 @@ entries_of table = filter_map entry_of (cut_of table).0
 
 -- ---- the table
 
--- what the first bytes of a MADT mean (section 5.2.12)
+-- the table MADT, at least 44 bytes: section 5.2.12
 unfoldable pub madt_at : List ℕ → Madt
 madt_at b = record {
   header = header_at b;

@@ -5,14 +5,14 @@ use Rattle.acpi_bytes.specs.Bytes.{field_of}
 use Rattle.acpi_bytes.specs.Extended.{extended_at}
 use Rattle.acpi_base.specs.Types.{EntryHeader, LocalApicEntry, IoApicEntry, InterruptSourceOverrideEntry, NmiSourceEntry, LocalApicNmiEntry, LocalApicAddressOverrideEntry, LocalX2ApicEntry, X2ApicNmiEntry, IoSapicEntry, LocalSapicEntry, PlatformInterruptSourceEntry, GiccEntry, GicdEntry, GicMsiFrameEntry, GicRedistributorEntry, GicInterruptTranslationServiceEntry, MultiprocessorWakeupEntry}
 
--- what each entry begins with
+-- what each entry begins with, at least 2 bytes
 abbrev pub entry_header_at : List ℕ → EntryHeader
 entry_header_at b = record {
   entry_type = field_of b 0 1;  -- Type
   length = field_of b 1 1;  -- Length
 }
 
--- Processor Local APIC: section 5.2.12.2
+-- Processor Local APIC, at least 8 bytes: section 5.2.12.2
 abbrev pub local_apic_at : List ℕ → LocalApicEntry
 local_apic_at b = record {
   header = entry_header_at b;
@@ -21,7 +21,7 @@ local_apic_at b = record {
   flags = field_of b 4 4;  -- Flags (Local APIC Flags)
 }
 
--- I/O APIC: section 5.2.12.3
+-- I/O APIC, at least 12 bytes: section 5.2.12.3
 abbrev pub io_apic_at : List ℕ → IoApicEntry
 io_apic_at b = record {
   header = entry_header_at b;
@@ -30,7 +30,7 @@ io_apic_at b = record {
   global_system_interrupt_base = field_of b 8 4;  -- Global System Interrupt Base
 }
 
--- Interrupt Source Override: section 5.2.12.5
+-- Interrupt Source Override, at least 10 bytes: section 5.2.12.5
 abbrev pub interrupt_source_override_at : List ℕ → InterruptSourceOverrideEntry
 interrupt_source_override_at b = record {
   header = entry_header_at b;
@@ -40,7 +40,7 @@ interrupt_source_override_at b = record {
   flags = field_of b 8 2;  -- Flags (MPS INTI Flags)
 }
 
--- NMI Source: section 5.2.12.6
+-- NMI Source, at least 8 bytes: section 5.2.12.6
 abbrev pub nmi_source_at : List ℕ → NmiSourceEntry
 nmi_source_at b = record {
   header = entry_header_at b;
@@ -48,7 +48,7 @@ nmi_source_at b = record {
   global_system_interrupt = field_of b 4 4;  -- Global System Interrupt
 }
 
--- Local APIC NMI: section 5.2.12.7
+-- Local APIC NMI, at least 6 bytes: section 5.2.12.7
 abbrev pub local_apic_nmi_at : List ℕ → LocalApicNmiEntry
 local_apic_nmi_at b = record {
   header = entry_header_at b;
@@ -57,14 +57,14 @@ local_apic_nmi_at b = record {
   nmi_line = field_of b 5 1;  -- Local APIC LINT#
 }
 
--- Local APIC Address Override: section 5.2.12.8
+-- Local APIC Address Override, at least 12 bytes: section 5.2.12.8
 abbrev pub local_apic_address_override_at : List ℕ → LocalApicAddressOverrideEntry
 local_apic_address_override_at b = record {
   header = entry_header_at b;
   local_apic_address = field_of b 4 8;  -- Local APIC Address
 }
 
--- I/O SAPIC: section 5.2.12.9
+-- I/O SAPIC, at least 16 bytes: section 5.2.12.9
 abbrev pub io_sapic_at : List ℕ → IoSapicEntry
 io_sapic_at b = record {
   header = entry_header_at b;
@@ -73,7 +73,7 @@ io_sapic_at b = record {
   io_sapic_address = field_of b 8 8;  -- I/O SAPIC Address
 }
 
--- Local SAPIC: section 5.2.12.10
+-- Local SAPIC, at least 16 bytes: section 5.2.12.10
 abbrev pub local_sapic_at : List ℕ → LocalSapicEntry
 local_sapic_at b = record {
   header = entry_header_at b;
@@ -84,7 +84,7 @@ local_sapic_at b = record {
   processor_uid = field_of b 12 4;  -- ACPI Processor UID Value
 }
 
--- Platform Interrupt Sources: section 5.2.12.11
+-- Platform Interrupt Sources, at least 16 bytes: section 5.2.12.11
 abbrev pub platform_interrupt_source_at : List ℕ → PlatformInterruptSourceEntry
 platform_interrupt_source_at b = record {
   header = entry_header_at b;
@@ -97,7 +97,7 @@ platform_interrupt_source_at b = record {
   platform_interrupt_source_flags = field_of b 12 4;  -- Platform Interrupt Source Flags
 }
 
--- Processor Local x2APIC: section 5.2.12.12
+-- Processor Local x2APIC, at least 16 bytes: section 5.2.12.12
 abbrev pub local_x2apic_at : List ℕ → LocalX2ApicEntry
 local_x2apic_at b = record {
   header = entry_header_at b;
@@ -106,7 +106,7 @@ local_x2apic_at b = record {
   processor_uid = field_of b 12 4;  -- ACPI Processor UID
 }
 
--- Local x2APIC NMI: section 5.2.12.13
+-- Local x2APIC NMI, at least 12 bytes: section 5.2.12.13
 abbrev pub x2apic_nmi_at : List ℕ → X2ApicNmiEntry
 x2apic_nmi_at b = record {
   header = entry_header_at b;
@@ -115,7 +115,7 @@ x2apic_nmi_at b = record {
   nmi_line = field_of b 8 1;  -- Local x2APIC LINT#
 }
 
--- GIC CPU Interface (GICC): section 5.2.12.14
+-- GIC CPU Interface (GICC), at least 76 bytes: section 5.2.12.14
 abbrev pub gicc_at : List ℕ → GiccEntry
 gicc_at b = record {
   header = entry_header_at b;
@@ -136,7 +136,7 @@ gicc_at b = record {
   trbe_interrupt = extended_at {least = 6} (λ x. field_of x 0 2) b 80 2;  -- TRBE Interrupt, since ACPI 6.5
 }
 
--- GIC Distributor (GICD): section 5.2.12.15
+-- GIC Distributor (GICD), at least 24 bytes: section 5.2.12.15
 abbrev pub gicd_at : List ℕ → GicdEntry
 gicd_at b = record {
   header = entry_header_at b;
@@ -146,7 +146,7 @@ gicd_at b = record {
   gic_version = field_of b 20 1;  -- GIC version
 }
 
--- GIC MSI Frame: section 5.2.12.16
+-- GIC MSI Frame, at least 24 bytes: section 5.2.12.16
 abbrev pub gic_msi_frame_at : List ℕ → GicMsiFrameEntry
 gic_msi_frame_at b = record {
   header = entry_header_at b;
@@ -157,7 +157,7 @@ gic_msi_frame_at b = record {
   spi_base = field_of b 22 2;  -- SPI Base
 }
 
--- GIC Redistributor (GICR): section 5.2.12.17
+-- GIC Redistributor (GICR), at least 16 bytes: section 5.2.12.17
 abbrev pub gic_redistributor_at : List ℕ → GicRedistributorEntry
 gic_redistributor_at b = record {
   header = entry_header_at b;
@@ -165,7 +165,7 @@ gic_redistributor_at b = record {
   discovery_range_length = field_of b 12 4;  -- Discovery Range Length
 }
 
--- GIC Interrupt Translation Service (ITS): section 5.2.12.18
+-- GIC Interrupt Translation Service (ITS), at least 20 bytes: section 5.2.12.18
 abbrev pub gic_translation_service_at : List ℕ → GicInterruptTranslationServiceEntry
 gic_translation_service_at b = record {
   header = entry_header_at b;
@@ -173,7 +173,7 @@ gic_translation_service_at b = record {
   physical_base_address = field_of b 8 8;  -- Physical Base Address
 }
 
--- Multiprocessor Wakeup: section 5.2.12.19
+-- Multiprocessor Wakeup, at least 16 bytes: section 5.2.12.19
 abbrev pub multiprocessor_wakeup_at : List ℕ → MultiprocessorWakeupEntry
 multiprocessor_wakeup_at b = record {
   header = entry_header_at b;

@@ -5,11 +5,11 @@ use Rattle.acpi_bytes.specs.Bytes.{field_of}
 use Rattle.acpi_bytes.specs.Header.{header_at}
 use Rattle.acpi_base.specs.Types.{Mcfg, McfgEntry, McfgEntryIter}
 
--- what a table's first bytes mean
+-- the table MCFG, at least 44 bytes
 unfoldable pub mcfg_at : List ℕ → Mcfg
 mcfg_at b = record { header = header_at b }
 
--- what an entry's bytes mean
+-- an entry, at least 16 bytes
 abbrev pub mcfg_entry_at : List ℕ → McfgEntry
 mcfg_entry_at b = record {
   base_address = field_of b 0 8;  -- Base Address

@@ -9,7 +9,7 @@ use Rattle.acpi_bytes.specs.Header.{header_at}
 use Rattle.acpi_bytes.specs.Steps.{◌>>=◌, holds}
 use Rattle.acpi_base.specs.Types.{GenericAddress, AcpiError, InvalidNamespaceString, Spcr, SpcrInterfaceType}
 
--- what a table's bytes mean; a field that reaches past the end is read as if zeros followed
+-- the table SPCR, at least 80 bytes; a field that reaches past the end is read as if zeros followed
 unfoldable pub spcr_at : List ℕ → Spcr
 spcr_at b = record {
   header = header_at b;

@@ -114,8 +114,3 @@ pub use Rattle.acpi_bytes.specs.declared.error.MadtError.TheVariants.{
 pub use Rattle.acpi_bytes.specs.declared.header.SdtHeader.{SdtHeader}
 pub use Rattle.acpi_bytes.specs.declared.range.AddressRange.{AddressRange}
 pub use Rattle.acpi_bytes.specs.declared.signature.Signature.{Signature}
-pub use Rattle.acpi_bytes.specs.declared.signature.TheConstants.Signature.{
-  MADT,
-  MCFG,
-  SPCR,
-}

@@ -84,26 +84,6 @@ pub use Rattle.acpi_base.specs.Madt.{
   no_mailbox,
 }
 unfoldable pub use Rattle.acpi_base.specs.Madt.{madt_at}
-pub use Rattle.acpi_base.specs.MadtEntries.{
-  entry_header_at,
-  gic_msi_frame_at,
-  gic_redistributor_at,
-  gic_translation_service_at,
-  gicc_at,
-  gicd_at,
-  interrupt_source_override_at,
-  io_apic_at,
-  io_sapic_at,
-  local_apic_address_override_at,
-  local_apic_at,
-  local_apic_nmi_at,
-  local_sapic_at,
-  local_x2apic_at,
-  multiprocessor_wakeup_at,
-  nmi_source_at,
-  platform_interrupt_source_at,
-  x2apic_nmi_at,
-}
 pub use Rattle.acpi_base.specs.MadtWalk.{
   BeginsDefined,
   EndsAtRest,
@@ -128,7 +108,6 @@ pub use Rattle.acpi_base.specs.Mcfg.{
   mcfg_entry_at,
   whole_mcfg_entries,
 }
-unfoldable pub use Rattle.acpi_base.specs.Mcfg.{mcfg_at}
 pub use Rattle.acpi_base.specs.Model.{
   AsksMemory,
   Model,
@@ -213,15 +192,12 @@ pub use Rattle.acpi_base.specs.Types.{
   InvalidMadt,
   IoApic,
   IsaInterrupt,
-  MADT,
-  MCFG,
   MadtEntry,
   MadtError,
   MadtItem,
   ModelBuilder,
   Processor,
   ProcessorInfo,
-  SPCR,
   SdtHeader,
   SdtInvalidChecksum,
   SdtInvalidLength,

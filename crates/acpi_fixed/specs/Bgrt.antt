@@ -5,7 +5,7 @@ use Rattle.acpi_fixed.specs.declared.bgrt.Bgrt.{Bgrt}
 use Rattle.acpi_fixed.specs.declared.bgrt.ImageType.{ImageType}
 use Rattle.acpi_fixed.specs.declared.bgrt.ImageType.TheVariants.{Bitmap, Reserved}
 
--- what a table's bytes mean
+-- the table BGRT, at least 56 bytes
 unfoldable pub bgrt_at : List ℕ → Bgrt
 bgrt_at b = record {
   header = header_at b;

@@ -1,16 +1,13 @@
 //! The Boot Graphics Resource Table (BGRT): the image that the firmware showed while it started the machine
 //! (section 5.2.22).
 ghost use Rattle.std.specs.Prelude.{◌≡◌, ◌*◌};
-ghost use Rattle.std.proofs.Common.{lit≤};
 ghost use Rattle.acpi_base.specs.Words.{bits_of, has_bit};
-ghost use Rattle.acpi_fixed.specs.Words.{bgrt_at, image_type_of, offset_of, status_of};
+ghost use Rattle.acpi_fixed.specs.Words.{image_type_of, offset_of, status_of};
 
 mod readings;
 
 use acpi_base::bytes::{bits, has_bit};
 use acpi_base::sdt::SdtHeader;
-use acpi_base::{PhysicalRecord, SdtTable, Signature};
-use readings::bgrt_at;
 
 /// The Boot Graphics Resource Table (BGRT, section 5.2.22): an image in memory, and its place on the
 /// screen.
@@ -26,33 +23,6 @@ pub struct Bgrt {
     pub image_address: u64,
     x: u32,
     y: u32,
-}
-
-impl PhysicalRecord for Bgrt {
-    const MIN_LENGTH: usize = 56;
-
-    ghost MIN_LENGTH = { 56 };
-
-    ghost reading = { bgrt_at };
-
-    fn read(bytes: &[u8]) -> Self {
-        bgrt_at(bytes)
-    }
-}
-
-impl SdtTable for Bgrt {
-    ghost use Rattle.acpi_bytes.specs.declared.signature.TheConstants.Signature.{BGRT};
-
-    const NAME: Signature = Signature::BGRT;
-
-    ghost NAME = { BGRT };
-
-    #[tactic(auto, unfolding(crate::specs::Bgrt::bgrt_at))]
-    fn sdt_header(&self) -> &SdtHeader {
-        &self.header
-    }
-
-    ghost least = { lit≤ tt };
 }
 
 impl Bgrt {

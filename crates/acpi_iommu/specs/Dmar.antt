@@ -18,7 +18,7 @@ use Rattle.acpi_iommu.specs.declared.dmar.fields.Sidp.{Sidp}
 use Rattle.acpi_iommu.specs.declared.dmar.structure.Structures.{Structures}
 use Rattle.acpi_iommu.specs.declared.pieces.PieceIter.{PieceIter}
 
--- what a table's first bytes mean (section 8.1)
+-- the table DMAR, at least 48 bytes: section 8.1
 unfoldable pub dmar_at : List ℕ → Dmar
 dmar_at b = record {
   header = header_at b;

@@ -12,7 +12,7 @@ use Rattle.acpi_iommu.specs.declared.ivrs.block.IvrsFields.TheVariants as kinds
 use Rattle.acpi_iommu.specs.declared.ivrs.block.Blocks.{Blocks}
 use Rattle.acpi_iommu.specs.declared.pieces.PieceIter.{PieceIter}
 
--- what a table's first bytes mean
+-- the table IVRS, at least 48 bytes
 unfoldable pub ivrs_at : List ℕ → Ivrs
 ivrs_at b = record {
   header = header_at b;

@@ -76,7 +76,6 @@ pub use Rattle.acpi_iommu.specs.Ivrs.{
   ivhd_at,
   ivmd_at,
 }
-unfoldable pub use Rattle.acpi_iommu.specs.Ivrs.{ivrs_at}
 pub use Rattle.acpi_iommu.specs.IvrsEntries.{
   alias_of,
   bytes_of_entry,

@@ -10,9 +10,7 @@ mod units;
 
 use acpi_base::bytes::has_bit;
 use acpi_base::sdt::SdtHeader;
-use acpi_base::{PhysicalRecord, SdtTable, Signature};
 pub use fields::{Andd, Atsr, DmarFields, Drhd, Rhsa, Rmrr, Satc, Sidp};
-use readings::dmar_at;
 pub use reserved::ReservedIter;
 pub use scope::{DeviceScope, DeviceScopeIter, Hop, HopIter};
 pub use structure::{DmarStructure, DmarStructureIter};
@@ -28,36 +26,6 @@ pub struct Dmar {
     pub host_address_width: u8,
     /// Flags: bit 0 INTR_REMAP, bit 1 X2APIC_OPT_OUT, bit 2 DMA_CTRL_PLATFORM_OPT_IN_FLAG.
     pub flags: u8,
-}
-
-impl PhysicalRecord for Dmar {
-    ghost use Rattle.acpi_iommu.specs.Words.{dmar_at};
-
-    const MIN_LENGTH: usize = 48;
-
-    ghost MIN_LENGTH = { 48 };
-
-    ghost reading = { dmar_at };
-
-    fn read(bytes: &[u8]) -> Self {
-        dmar_at(bytes)
-    }
-}
-
-impl SdtTable for Dmar {
-    ghost use Rattle.std.proofs.Common.{lit≤};
-    ghost use Rattle.acpi_bytes.specs.declared.signature.TheConstants.Signature.{DMAR};
-
-    const NAME: Signature = Signature::DMAR;
-
-    ghost NAME = { DMAR };
-
-    #[tactic(auto, unfolding(crate::specs::Dmar::dmar_at))]
-    fn sdt_header(&self) -> &SdtHeader {
-        &self.header
-    }
-
-    ghost least = { lit≤ tt };
 }
 
 impl Dmar {

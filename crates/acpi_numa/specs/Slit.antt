@@ -4,7 +4,7 @@ use Rattle.acpi_base.specs.Words.{field_of, header_at}
 use Rattle.acpi_numa.specs.declared.slit.Distances.{Distances}
 use Rattle.acpi_numa.specs.declared.slit.Slit.{Slit}
 
--- what a table's first bytes mean
+-- the table SLIT, at least 44 bytes
 unfoldable pub slit_at : List ℕ → Slit
 slit_at b = record {
   header = header_at b;

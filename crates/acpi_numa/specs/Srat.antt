@@ -11,7 +11,7 @@ use Rattle.acpi_numa.specs.declared.srat.entry.ProcessorId.TheVariants as proces
 use Rattle.acpi_numa.specs.declared.srat.entry.SratEntry.{SratEntry}
 use Rattle.acpi_numa.specs.declared.srat.entry.SratEntry.TheVariants as kinds
 
--- what a table's first bytes mean
+-- the table SRAT, at least 48 bytes
 unfoldable pub srat_at : List ℕ → Srat
 srat_at b = record { header = header_at b }
 

@@ -19,10 +19,7 @@ pub use Rattle.acpi_numa.specs.Slit.{
   localities_of,
   slit_bytes,
 }
-unfoldable pub use Rattle.acpi_numa.specs.Slit.{
-  distance_of,
-  slit_at,
-}
+unfoldable pub use Rattle.acpi_numa.specs.Slit.{distance_of}
 pub use Rattle.acpi_numa.specs.Srat.{
   apic_domain,
   cut_of,
@@ -39,7 +36,6 @@ pub use Rattle.acpi_numa.specs.Srat.{
   srat_grammar,
   srat_layout,
 }
-unfoldable pub use Rattle.acpi_numa.specs.Srat.{srat_at}
 pub use Rattle.acpi_numa.specs.SratWalk.{
   EndsAtRest,
   entries_left,

@@ -6,8 +6,6 @@ mod readings;
 
 use acpi_base::bytes::field;
 use acpi_base::sdt::SdtHeader;
-use acpi_base::{PhysicalRecord, SdtTable, Signature};
-use readings::slit_at;
 
 /// The System Locality Information Table (SLIT, section 5.2.17). After these fields it has a byte for each
 /// pair of localities, which `Distances` reads.
@@ -18,36 +16,6 @@ pub struct Slit {
     /// Number of System Localities: how many localities there are. Nothing promises that the table has the
     /// distances of that many.
     pub localities: u64,
-}
-
-impl PhysicalRecord for Slit {
-    ghost use Rattle.acpi_numa.specs.Words.{slit_at};
-
-    const MIN_LENGTH: usize = 44;
-
-    ghost MIN_LENGTH = { 44 };
-
-    ghost reading = { slit_at };
-
-    fn read(bytes: &[u8]) -> Self {
-        slit_at(bytes)
-    }
-}
-
-impl SdtTable for Slit {
-    ghost use Rattle.std.proofs.Common.{lit≤};
-    ghost use Rattle.acpi.specs.Types.{SLIT};
-
-    const NAME: Signature = Signature::SLIT;
-
-    ghost NAME = { SLIT };
-
-    #[tactic(auto, unfolding(crate::specs::Slit::slit_at))]
-    fn sdt_header(&self) -> &SdtHeader {
-        &self.header
-    }
-
-    ghost least = { lit≤ tt };
 }
 
 /// The distances in a SLIT's bytes (section 5.2.17). It needs no handler.

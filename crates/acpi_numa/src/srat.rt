@@ -5,10 +5,10 @@ mod affinities;
 mod domains;
 mod entry;
 mod kinds;
+mod readings;
 mod walk;
 
 use acpi_base::sdt::SdtHeader;
-use acpi_base::{PhysicalRecord, SdtTable, Signature};
 pub use affinities::{MemoryAffinities, MemoryRange, counted as affinities_count};
 pub use domains::Domains;
 pub use entry::{SRAT_GRAMMAR, SratEntry};
@@ -24,37 +24,4 @@ pub use walk::SratEntryIter;
 pub struct Srat {
     /// The header that every table begins with.
     pub header: SdtHeader,
-}
-
-impl PhysicalRecord for Srat {
-    ghost use Rattle.acpi_numa.specs.Words.{srat_at};
-
-    const MIN_LENGTH: usize = 48;
-
-    ghost MIN_LENGTH = { 48 };
-
-    ghost reading = { srat_at };
-
-    #[tactic(auto, unfolding(crate::specs::Srat::srat_at))]
-    fn read(bytes: &[u8]) -> Self {
-        Srat {
-            header: SdtHeader::read(bytes),
-        }
-    }
-}
-
-impl SdtTable for Srat {
-    ghost use Rattle.std.proofs.Common.{lit≤};
-    ghost use Rattle.acpi.specs.Types.{SRAT};
-
-    const NAME: Signature = Signature::SRAT;
-
-    ghost NAME = { SRAT };
-
-    #[tactic(auto, unfolding(crate::specs::Srat::srat_at))]
-    fn sdt_header(&self) -> &SdtHeader {
-        &self.header
-    }
-
-    ghost least = { lit≤ tt };
 }

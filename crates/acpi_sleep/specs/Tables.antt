@@ -14,7 +14,7 @@ use Rattle.acpi_sleep.specs.declared.sleep.SleepAnswer.TheVariants.{Absent, NotS
 use Rattle.acpi_sleep.specs.declared.sleep.SleepTypes.{SleepTypes}
 use Rattle.acpi_sleep.specs.declared.tables.Ssdt.{Ssdt}
 
--- what the first bytes of an SSDT mean
+-- the table SSDT, at least 36 bytes
 unfoldable pub ssdt_at : List ℕ → Ssdt
 ssdt_at b = record { header = header_at b }
 

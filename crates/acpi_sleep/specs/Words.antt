@@ -129,7 +129,6 @@ pub use Rattle.acpi_sleep.specs.Tables.{
 unfoldable pub use Rattle.acpi_sleep.specs.Tables.{
   block_answer,
   dsdt_answer,
-  ssdt_at,
 }
 pub use Rattle.acpi_sleep.specs.Terms.{
   field_end,

@@ -3,52 +3,21 @@ ghost use Rattle.std.specs.Prelude.{◌≡◌, ◌≤◌, ℕ, Ok, length};
 ghost use Rattle.acpi.specs.Words.{AllowsBelow, FootprintBelow, dsdt_ranges, of_tables};
 ghost use Rattle.acpi_sleep.specs.Words.{Answer, answer_ranges, block_answer, dsdt_answer, or_after, tables_answer};
 
+mod readings;
+
 use crate::error::SleepError;
 use crate::sleep::{SleepAnswer, sleep_types};
 use acpi::AcpiTables;
 use acpi::fadt::Fadt;
+use acpi_base::Lender;
 use acpi_base::bytes::skip;
 use acpi_base::sdt::{SdtHeader, Signature, map_sdt};
-use acpi_base::{Lender, PhysicalRecord, SdtTable};
 
 /// A Secondary System Description Table (SSDT, section 5.2.11.2), whose AML is after the header.
 #[derive(Debug, Drop)]
 pub struct Ssdt {
     /// The header that every table begins with.
     pub header: SdtHeader,
-}
-
-impl PhysicalRecord for Ssdt {
-    ghost use Rattle.acpi_sleep.specs.Words.{ssdt_at};
-
-    const MIN_LENGTH: usize = 36;
-
-    ghost MIN_LENGTH = { 36 };
-
-    ghost reading = { ssdt_at };
-
-    #[tactic(auto, unfolding(crate::specs::Tables::ssdt_at))]
-    fn read(bytes: &[u8]) -> Self {
-        Ssdt {
-            header: SdtHeader::read(bytes),
-        }
-    }
-}
-
-impl SdtTable for Ssdt {
-    ghost use Rattle.std.proofs.Common.{lit≤};
-    ghost use Rattle.acpi.specs.Types.{SSDT};
-
-    const NAME: Signature = Signature::SSDT;
-
-    ghost NAME = { SSDT };
-
-    #[tactic(auto, unfolding(crate::specs::Tables::ssdt_at))]
-    fn sdt_header(&self) -> &SdtHeader {
-        &self.header
-    }
-
-    ghost least = { lit≤ tt };
 }
 
 /// The sleep types of tables.

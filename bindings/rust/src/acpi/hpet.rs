@@ -6,8 +6,7 @@ mod readings;
 use crate::acpi::tables::AcpiTables;
 use crate::base::bytes::{bits, has_bit};
 use crate::base::sdt::SdtHeader;
-use crate::base::{AcpiError, AcpiResult, Lender, PhysicalRecord, SdtTable, Signature};
-use readings::hpet_at;
+use crate::base::{AcpiError, AcpiResult, Lender};
 
 /// The IA-PC High Precision Event Timer Table (HPET). Section 5.2.6 reserves its signature, and its layout
 /// is the IA-PC HPET Specification's. `HpetInfo` shows what it contains.
@@ -20,23 +19,6 @@ pub struct HpetTable {
     hpet_number: u8,
     clock_tick_unit: u16,
     page_protection_and_oem: u8,
-}
-
-impl PhysicalRecord for HpetTable {
-    const MIN_LENGTH: usize = 56;
-
-    #[inline(always)]
-    fn read(bytes: &[u8]) -> Self {
-        hpet_at(bytes)
-    }
-}
-
-impl SdtTable for HpetTable {
-    const NAME: Signature = Signature::HPET;
-
-    fn sdt_header(&self) -> &SdtHeader {
-        &self.header
-    }
 }
 
 /// Page Protection: whether accesses to the page of the timer's registers, after the registers, do no harm

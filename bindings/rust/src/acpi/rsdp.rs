@@ -10,7 +10,6 @@ use crate::base::bytes::{byte_sum, is_text, text_of};
 use crate::base::{AcpiError, AcpiResult, Lender, PhysicalMapping, PhysicalRecord};
 pub use areas::bios_areas;
 pub(crate) use bios::{Area, second_area};
-use readings::rsdp_of;
 
 /// The Root System Description Pointer (RSDP), by its 36 bytes (section 5.2.5.3). Revision 0 has only the
 /// first 20 of them: the fields after these mean nothing there.
@@ -24,15 +23,6 @@ pub struct Rsdp {
     length: u32,
     xsdt_address: u64,
     ext_checksum: u8,
-}
-
-impl PhysicalRecord for Rsdp {
-    const MIN_LENGTH: usize = 36;
-
-    #[inline(always)]
-    fn read(bytes: &[u8]) -> Self {
-        rsdp_of(bytes)
-    }
 }
 
 impl Rsdp {

@@ -11,12 +11,11 @@ pub use crate::arm::timers::{
     GtBlock, PlatformTimer, PlatformTimerIter, SbsaWatchdog, frames_end, is_sound, timer_bytes, timer_count,
     timers_grammar, timers_offset,
 };
+use crate::base::PhysicalRecord;
 use crate::base::bytes::{has_bit, u32_in};
 use crate::base::extended::ExtendedField;
 use crate::base::model::{Polarity, TriggerMode};
 use crate::base::sdt::SdtHeader;
-use crate::base::{PhysicalRecord, SdtTable, Signature};
-use readings::gtdt_at;
 
 /// A timer that every processor has, by its GSIV and its flags in a GTDT (section 5.2.24).
 #[derive(Clone, Copy, Debug)]
@@ -75,23 +74,6 @@ pub struct Gtdt {
     /// Platform Timer Offset: where these structures begin, in bytes from the table's first one.
     pub platform_timer_offset: u32,
     el2_virtual: ExtendedField<ArmTimer, 3>,
-}
-
-impl PhysicalRecord for Gtdt {
-    const MIN_LENGTH: usize = 96;
-
-    #[inline(always)]
-    fn read(bytes: &[u8]) -> Self {
-        gtdt_at(bytes)
-    }
-}
-
-impl SdtTable for Gtdt {
-    const NAME: Signature = Signature::GTDT;
-
-    fn sdt_header(&self) -> &SdtHeader {
-        &self.header
-    }
 }
 
 impl Gtdt {

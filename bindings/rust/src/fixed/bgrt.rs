@@ -6,8 +6,6 @@ mod readings;
 
 use crate::base::bytes::{bits, has_bit};
 use crate::base::sdt::SdtHeader;
-use crate::base::{PhysicalRecord, SdtTable, Signature};
-use readings::bgrt_at;
 
 /// The Boot Graphics Resource Table (BGRT, section 5.2.22): an image in memory, and its place on the
 /// screen.
@@ -23,23 +21,6 @@ pub struct Bgrt {
     pub image_address: u64,
     x: u32,
     y: u32,
-}
-
-impl PhysicalRecord for Bgrt {
-    const MIN_LENGTH: usize = 56;
-
-    #[inline(always)]
-    fn read(bytes: &[u8]) -> Self {
-        bgrt_at(bytes)
-    }
-}
-
-impl SdtTable for Bgrt {
-    const NAME: Signature = Signature::BGRT;
-
-    fn sdt_header(&self) -> &SdtHeader {
-        &self.header
-    }
 }
 
 impl Bgrt {

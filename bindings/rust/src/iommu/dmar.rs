@@ -11,9 +11,7 @@ mod units;
 
 use crate::base::bytes::has_bit;
 use crate::base::sdt::SdtHeader;
-use crate::base::{PhysicalRecord, SdtTable, Signature};
 pub use fields::{Andd, Atsr, DmarFields, Drhd, Rhsa, Rmrr, Satc, Sidp};
-use readings::dmar_at;
 pub use reserved::ReservedIter;
 pub use scope::{DeviceScope, DeviceScopeIter, Hop, HopIter};
 pub use structure::{DmarStructure, DmarStructureIter};
@@ -28,23 +26,6 @@ pub struct Dmar {
     pub host_address_width: u8,
     /// Flags: bit 0 INTR_REMAP, bit 1 X2APIC_OPT_OUT, bit 2 DMA_CTRL_PLATFORM_OPT_IN_FLAG.
     pub flags: u8,
-}
-
-impl PhysicalRecord for Dmar {
-    const MIN_LENGTH: usize = 48;
-
-    #[inline(always)]
-    fn read(bytes: &[u8]) -> Self {
-        dmar_at(bytes)
-    }
-}
-
-impl SdtTable for Dmar {
-    const NAME: Signature = Signature::DMAR;
-
-    fn sdt_header(&self) -> &SdtHeader {
-        &self.header
-    }
 }
 
 impl Dmar {

@@ -8,11 +8,9 @@ mod entry;
 mod readings;
 
 use crate::base::sdt::SdtHeader;
-use crate::base::{PhysicalRecord, SdtTable, Signature};
 pub use block::{Ivhd, Ivmd, IvrsBlock, IvrsBlockIter, IvrsFields};
 pub use blocks::{BestBlockIter, DeviceUnit, IvrsBlocks, MemoryIter};
 pub use entry::{DeviceEntry, DeviceEntryIter, SpecialDevice};
-use readings::ivrs_at;
 
 /// The I/O Virtualization Reporting Structure (IVRS, section 5.2). Its blocks are after 48 fixed bytes; `IvrsBlocks`
 /// reads them.
@@ -21,21 +19,4 @@ pub struct Ivrs {
     pub header: SdtHeader,
     /// IVinfo: what the units have in common, in bits that the specification names.
     pub info: u32,
-}
-
-impl PhysicalRecord for Ivrs {
-    const MIN_LENGTH: usize = 48;
-
-    #[inline(always)]
-    fn read(bytes: &[u8]) -> Self {
-        ivrs_at(bytes)
-    }
-}
-
-impl SdtTable for Ivrs {
-    const NAME: Signature = Signature::IVRS;
-
-    fn sdt_header(&self) -> &SdtHeader {
-        &self.header
-    }
 }

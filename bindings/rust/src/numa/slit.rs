@@ -5,8 +5,6 @@ mod readings;
 
 use crate::base::bytes::field;
 use crate::base::sdt::SdtHeader;
-use crate::base::{PhysicalRecord, SdtTable, Signature};
-use readings::slit_at;
 
 /// The System Locality Information Table (SLIT, section 5.2.17). After these fields it has a byte for each
 /// pair of localities, which `Distances` reads.
@@ -16,23 +14,6 @@ pub struct Slit {
     /// Number of System Localities: how many localities there are. Nothing promises that the table has the
     /// distances of that many.
     pub localities: u64,
-}
-
-impl PhysicalRecord for Slit {
-    const MIN_LENGTH: usize = 44;
-
-    #[inline(always)]
-    fn read(bytes: &[u8]) -> Self {
-        slit_at(bytes)
-    }
-}
-
-impl SdtTable for Slit {
-    const NAME: Signature = Signature::SLIT;
-
-    fn sdt_header(&self) -> &SdtHeader {
-        &self.header
-    }
 }
 
 /// The distances in a SLIT's bytes (section 5.2.17). It needs no handler.

@@ -6,10 +6,10 @@ mod affinities;
 mod domains;
 mod entry;
 mod kinds;
+mod readings;
 mod walk;
 
 use crate::base::sdt::SdtHeader;
-use crate::base::{PhysicalRecord, SdtTable, Signature};
 pub use affinities::{MemoryAffinities, MemoryRange, counted as affinities_count};
 pub use domains::Domains;
 pub use entry::{SRAT_GRAMMAR, SratEntry};
@@ -23,21 +23,4 @@ pub use walk::SratEntryIter;
 pub struct Srat {
     /// The header that every table begins with.
     pub header: SdtHeader,
-}
-
-impl PhysicalRecord for Srat {
-    const MIN_LENGTH: usize = 48;
-
-    #[inline(always)]
-    fn read(bytes: &[u8]) -> Self {
-        Srat { header: SdtHeader::read(bytes) }
-    }
-}
-
-impl SdtTable for Srat {
-    const NAME: Signature = Signature::SRAT;
-
-    fn sdt_header(&self) -> &SdtHeader {
-        &self.header
-    }
 }

@@ -1,11 +1,13 @@
 // Made by scripts/erase of crates/acpi_sleep/src/tables.rt, where it is proved.
 //! The sleep types that the tables of a machine contain (section 7.4.2).
 
+mod readings;
+
 use crate::acpi::AcpiTables;
 use crate::acpi::fadt::Fadt;
+use crate::base::Lender;
 use crate::base::bytes::skip;
 use crate::base::sdt::{SdtHeader, Signature, map_sdt};
-use crate::base::{Lender, PhysicalRecord, SdtTable};
 use crate::sleep::error::SleepError;
 use crate::sleep::sleep::{SleepAnswer, sleep_types};
 
@@ -14,23 +16,6 @@ use crate::sleep::sleep::{SleepAnswer, sleep_types};
 pub struct Ssdt {
     /// The header that every table begins with.
     pub header: SdtHeader,
-}
-
-impl PhysicalRecord for Ssdt {
-    const MIN_LENGTH: usize = 36;
-
-    #[inline(always)]
-    fn read(bytes: &[u8]) -> Self {
-        Ssdt { header: SdtHeader::read(bytes) }
-    }
-}
-
-impl SdtTable for Ssdt {
-    const NAME: Signature = Signature::SSDT;
-
-    fn sdt_header(&self) -> &SdtHeader {
-        &self.header
-    }
 }
 
 /// The sleep types of tables.

@@ -1,30 +1,34 @@
 //! Made by scripts/readings: records, as their definitions in specs/ read them from bytes.
-ghost use Rattle.std.specs.Prelude.{◌≡◌, ◌≤◌, length};
 ghost use Rattle.acpi.specs.Rsdp.{rsdp_of};
 
 use super::Rsdp;
+use acpi_base::PhysicalRecord;
 use acpi_base::bytes::{field_in, u8_in, u32_in};
 
-#[inline(always)]
-#[tactic(auto, unfolding(crate::specs::Rsdp::rsdp_of))]
-pub(crate) fn rsdp_of(bytes: &[u8]) -> Rsdp
-    requires { 36 ≤ length bytes.now }
-    ensures { result ≡ rsdp_of bytes.now }
-{
-    Rsdp {
-        // Signature
-        signature: [
-            bytes[0], bytes[1], bytes[2], bytes[3], bytes[4], bytes[5], bytes[6], bytes[7],
-        ],
-        checksum: u8_in(bytes, 8), // Checksum
-        // OEMID
-        oem_id: [
-            bytes[9], bytes[10], bytes[11], bytes[12], bytes[13], bytes[14],
-        ],
-        revision: u8_in(bytes, 15), // Revision
-        rsdt_address: u32_in(bytes, 16), // RsdtAddress
-        length: u32_in(bytes, 20), // Length
-        xsdt_address: field_in(bytes, 24, 8), // XsdtAddress
-        ext_checksum: u8_in(bytes, 32), // Extended Checksum
+impl PhysicalRecord for Rsdp {
+    const MIN_LENGTH: usize = 36;
+
+    ghost MIN_LENGTH = { 36 };
+
+    ghost reading = { rsdp_of };
+
+    #[tactic(auto, unfolding(crate::specs::Rsdp::rsdp_of))]
+    fn read(bytes: &[u8]) -> Self {
+        Rsdp {
+            // Signature
+            signature: [
+                bytes[0], bytes[1], bytes[2], bytes[3], bytes[4], bytes[5], bytes[6], bytes[7],
+            ],
+            checksum: u8_in(bytes, 8), // Checksum
+            // OEMID
+            oem_id: [
+                bytes[9], bytes[10], bytes[11], bytes[12], bytes[13], bytes[14],
+            ],
+            revision: u8_in(bytes, 15), // Revision
+            rsdt_address: u32_in(bytes, 16), // RsdtAddress
+            length: u32_in(bytes, 20), // Length
+            xsdt_address: field_in(bytes, 24, 8), // XsdtAddress
+            ext_checksum: u8_in(bytes, 32), // Extended Checksum
+        }
     }
 }

@@ -1,7 +1,6 @@
 //! The Multiple APIC Description Table (MADT): interrupt controllers and processors (section 5.2.12).
 ghost use Rattle.std.specs.Prelude.{◌≡◌, ◌+◌, ◌*◌, ◌≤◌, length, false};
-ghost use Rattle.std.proofs.Common.{lit≤};
-ghost use Rattle.acpi_base.specs.Words.{mailbox_of, madt_at, cut_of, entries_of, MADT, has_bit, entries_left, has_ended, rest_left, bytes_of, AsksMemory, model_of, GivesOrFull};
+ghost use Rattle.acpi_base.specs.Words.{mailbox_of, cut_of, entries_of, has_bit, entries_left, has_ended, rest_left, bytes_of, AsksMemory, model_of, GivesOrFull};
 
 mod apic;
 mod entry;
@@ -14,12 +13,10 @@ mod walk;
 use crate::bytes::has_bit;
 pub use crate::error::MadtError;
 use crate::error::{AcpiError, AcpiResult};
-use crate::memory::handler::{Lender, PhysicalRecord};
+use crate::memory::handler::Lender;
 use crate::memory::mapping::PhysicalMapping;
 use crate::model::{ModelAndProcessors, model_in};
-use crate::table::SdtTable;
 use crate::table::header::SdtHeader;
-use crate::table::signature::Signature;
 pub use apic::{
     InterruptSourceOverrideEntry, IoApicEntry, LocalApicAddressOverrideEntry, LocalApicEntry,
     LocalApicNmiEntry, LocalX2ApicEntry, NmiSourceEntry, X2ApicNmiEntry,
@@ -29,7 +26,6 @@ pub use gic::{
     GicInterruptTranslationServiceEntry, GicMsiFrameEntry, GicRedistributorEntry, GiccEntry,
     GicdEntry,
 };
-use readings::madt_at;
 pub use sapic::{IoSapicEntry, LocalSapicEntry, PlatformInterruptSourceEntry};
 use std::alloc::Allocator;
 pub use wakeup::{
@@ -48,31 +44,6 @@ pub struct Madt {
     pub local_apic_address: u32,
     /// Flags: bit 0 PCAT_COMPAT, the machine has a pair of 8259 controllers too (`supports_8259()`).
     pub flags: u32,
-}
-
-impl PhysicalRecord for Madt {
-    const MIN_LENGTH: usize = 44;
-
-    ghost MIN_LENGTH = { 44 };
-
-    ghost reading = { madt_at };
-
-    fn read(bytes: &[u8]) -> Self {
-        madt_at(bytes)
-    }
-}
-
-impl SdtTable for Madt {
-    const NAME: Signature = Signature::MADT;
-
-    ghost NAME = { MADT };
-
-    #[tactic(auto, unfolding(crate::specs::Madt::madt_at))]
-    fn sdt_header(&self) -> &SdtHeader {
-        &self.header
-    }
-
-    ghost least = { lit≤ tt };
 }
 
 impl Madt {

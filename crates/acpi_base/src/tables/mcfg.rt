@@ -1,9 +1,8 @@
 //! The MCFG: the regions of memory that hold the configuration space of PCI functions (PCI Firmware
 //! Specification; ACPI 6.4, section 5.2.6, reserves the signature).
 ghost use Rattle.std.specs.Prelude.{◌≡◌, ◌-◌, ◌/◌, length};
-ghost use Rattle.std.proofs.Common.{lit≤};
 ghost use Rattle.acpi_base.specs.FromStd.{YieldsFirst, item_count};
-ghost use Rattle.acpi_base.specs.Words.{mcfg_at, mcfg_entry_at, mcfg_entries_left, mcfg_entries_of, MCFG, bytes_of};
+ghost use Rattle.acpi_base.specs.Words.{mcfg_entries_left, mcfg_entries_of, bytes_of};
 
 mod ecam;
 mod readings;
@@ -11,10 +10,7 @@ mod readings;
 use crate::bytes::skip;
 use crate::memory::handler::{Lender, PhysicalRecord};
 use crate::memory::mapping::PhysicalMapping;
-use crate::table::SdtTable;
 use crate::table::header::SdtHeader;
-use crate::table::signature::Signature;
-use readings::{mcfg_at, mcfg_entry_at};
 
 /// The MCFG: regions of memory, each with the configuration space of some PCI buses. Section 5.2.6 reserves
 /// its signature, and its layout is the PCI Firmware Specification's (section 4.1.2). Its entries are after
@@ -22,31 +18,6 @@ use readings::{mcfg_at, mcfg_entry_at};
 #[derive(Drop)]
 pub struct Mcfg {
     header: SdtHeader,
-}
-
-impl PhysicalRecord for Mcfg {
-    const MIN_LENGTH: usize = 44;
-
-    ghost MIN_LENGTH = { 44 };
-
-    ghost reading = { mcfg_at };
-
-    fn read(bytes: &[u8]) -> Self {
-        mcfg_at(bytes)
-    }
-}
-
-impl SdtTable for Mcfg {
-    const NAME: Signature = Signature::MCFG;
-
-    ghost NAME = { MCFG };
-
-    #[tactic(auto, unfolding(crate::specs::Mcfg::mcfg_at))]
-    fn sdt_header(&self) -> &SdtHeader {
-        &self.header
-    }
-
-    ghost least = { lit≤ tt };
 }
 
 /// An entry of an MCFG: a region of memory with the configuration space of the buses of one PCI segment
@@ -64,18 +35,6 @@ pub struct McfgEntry {
     pub bus_number_start: u8,
     /// End Bus Number: the last bus.
     pub bus_number_end: u8,
-}
-
-impl PhysicalRecord for McfgEntry {
-    const MIN_LENGTH: usize = 16;
-
-    ghost MIN_LENGTH = { 16 };
-
-    ghost reading = { mcfg_entry_at };
-
-    fn read(bytes: &[u8]) -> Self {
-        mcfg_entry_at(bytes)
-    }
 }
 
 /// The entries of an MCFG, of 16 bytes each, in order (section 5.2.6 reserves the signature). A remainder

@@ -1,8 +1,7 @@
 //! The Serial Port Console Redirection Table (SPCR): the serial console that the firmware used.
 ghost use Rattle.std.specs.Prelude.{◌≡◌, Some, None, if◌then◌else◌};
-ghost use Rattle.std.proofs.Common.{lit≤};
 ghost use Rattle.acpi_base.specs.FromStd.{bit_and};
-ghost use Rattle.acpi_base.specs.Words.{name_of, namespace_in, spcr_at, baud_of, bus_of, clock_of, device_id_of, device_of, function_of, interface_in, interrupt_of, irq_of, vendor_id_of, flow_byte, interrupt_byte, terminal_byte, namespace_of, Shows, SPCR, flow_bits, interrupt_bits, terminal_bits, bytes_of};
+ghost use Rattle.acpi_base.specs.Words.{name_of, namespace_in, baud_of, bus_of, clock_of, device_id_of, device_of, function_of, interface_in, interrupt_of, irq_of, vendor_id_of, flow_byte, interrupt_byte, terminal_byte, namespace_of, Shows, flow_bits, interrupt_bits, terminal_bits, bytes_of};
 ghost use Rattle.acpi_base.specs.Spcr.{base_of};
 
 mod flags;
@@ -12,15 +11,12 @@ mod readings;
 use crate::address::{GenericAddress, RawAddress};
 use crate::bytes::{bits, has_bit, text_of};
 use crate::error::{AcpiError, AcpiResult};
-use crate::memory::handler::{Lender, PhysicalRecord};
+use crate::memory::handler::Lender;
 use crate::memory::mapping::PhysicalMapping;
-use crate::table::SdtTable;
 use crate::table::header::SdtHeader;
-use crate::table::signature::Signature;
 use bitflags::Flags;
 pub use flags::{SpcrFlowControl, SpcrInterruptType, SpcrTerminalType};
 pub use interface::SpcrInterfaceType;
-use readings::spcr_at;
 
 /// The Serial Port Console Redirection Table (SPCR): the serial console that the firmware used. Section
 /// 5.2.6 reserves its signature, and its layout is Microsoft's. A field that reaches past the table's end is
@@ -57,31 +53,6 @@ pub struct Spcr {
     precise_baud_rate: u32,
     namespace_length: u16,
     namespace_offset: u16,
-}
-
-impl PhysicalRecord for Spcr {
-    const MIN_LENGTH: usize = 80;
-
-    ghost MIN_LENGTH = { 80 };
-
-    ghost reading = { spcr_at };
-
-    fn read(bytes: &[u8]) -> Self {
-        spcr_at(bytes)
-    }
-}
-
-impl SdtTable for Spcr {
-    const NAME: Signature = Signature::SPCR;
-
-    ghost NAME = { SPCR };
-
-    #[tactic(auto, unfolding(crate::specs::Spcr::spcr_at))]
-    fn sdt_header(&self) -> &SdtHeader {
-        &self.header
-    }
-
-    ghost least = { lit≤ tt };
 }
 
 impl Spcr {

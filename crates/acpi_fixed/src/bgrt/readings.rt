@@ -1,23 +1,42 @@
 //! Made by scripts/readings: records, as their definitions in specs/ read them from bytes.
-ghost use Rattle.std.specs.Prelude.{◌≡◌, ◌≤◌, length};
+ghost use Rattle.std.proofs.Common.{lit≤};
+ghost use Rattle.acpi_bytes.specs.declared.signature.TheConstants.Signature.{BGRT};
 ghost use Rattle.acpi_fixed.specs.Bgrt.{bgrt_at};
 
-use super::{Bgrt, PhysicalRecord, SdtHeader};
+use super::{Bgrt, SdtHeader};
 use acpi_base::bytes::{field_in, u8_in, u16_in, u32_in};
+use acpi_base::{PhysicalRecord, SdtTable, Signature};
 
-#[inline(always)]
-#[tactic(auto, unfolding(crate::specs::Bgrt::bgrt_at))]
-pub(crate) fn bgrt_at(bytes: &[u8]) -> Bgrt
-    requires { 56 ≤ length bytes.now }
-    ensures { result ≡ bgrt_at bytes.now }
-{
-    Bgrt {
-        header: SdtHeader::read(bytes),
-        version: u16_in(bytes, 36), // Version
-        status: u8_in(bytes, 38), // Status
-        image_type: u8_in(bytes, 39), // Image Type
-        image_address: field_in(bytes, 40, 8), // Image Address
-        x: u32_in(bytes, 48), // Image Offset X
-        y: u32_in(bytes, 52), // Image Offset Y
+impl PhysicalRecord for Bgrt {
+    const MIN_LENGTH: usize = 56;
+
+    ghost MIN_LENGTH = { 56 };
+
+    ghost reading = { bgrt_at };
+
+    #[tactic(auto, unfolding(crate::specs::Bgrt::bgrt_at))]
+    fn read(bytes: &[u8]) -> Self {
+        Bgrt {
+            header: SdtHeader::read(bytes),
+            version: u16_in(bytes, 36), // Version
+            status: u8_in(bytes, 38), // Status
+            image_type: u8_in(bytes, 39), // Image Type
+            image_address: field_in(bytes, 40, 8), // Image Address
+            x: u32_in(bytes, 48), // Image Offset X
+            y: u32_in(bytes, 52), // Image Offset Y
+        }
     }
+}
+
+impl SdtTable for Bgrt {
+    const NAME: Signature = Signature::BGRT;
+
+    ghost NAME = { BGRT };
+
+    #[tactic(auto, unfolding(crate::specs::Bgrt::bgrt_at))]
+    fn sdt_header(&self) -> &SdtHeader {
+        &self.header
+    }
+
+    ghost least = { lit≤ tt };
 }

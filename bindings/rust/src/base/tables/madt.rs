@@ -14,19 +14,16 @@ use crate::alloc::TryClone;
 use crate::base::bytes::has_bit;
 pub use crate::base::error::MadtError;
 use crate::base::error::{AcpiError, AcpiResult};
-use crate::base::memory::handler::{Lender, PhysicalRecord};
+use crate::base::memory::handler::Lender;
 use crate::base::memory::mapping::PhysicalMapping;
 use crate::base::model::{ModelAndProcessors, model_in};
-use crate::base::table::SdtTable;
 use crate::base::table::header::SdtHeader;
-use crate::base::table::signature::Signature;
 pub use apic::{
     InterruptSourceOverrideEntry, IoApicEntry, LocalApicAddressOverrideEntry, LocalApicEntry, LocalApicNmiEntry,
     LocalX2ApicEntry, NmiSourceEntry, X2ApicNmiEntry,
 };
 pub use entry::{EntryHeader, MADT_GRAMMAR, MadtEntry};
 pub use gic::{GicInterruptTranslationServiceEntry, GicMsiFrameEntry, GicRedistributorEntry, GiccEntry, GicdEntry};
-use readings::madt_at;
 pub use sapic::{IoSapicEntry, LocalSapicEntry, PlatformInterruptSourceEntry};
 pub use wakeup::{MpProtectedModeWakeupCommand, MultiprocessorWakeupEntry, MultiprocessorWakeupMailbox};
 pub use walk::MadtEntryIter;
@@ -42,23 +39,6 @@ pub struct Madt {
     pub local_apic_address: u32,
     /// Flags: bit 0 PCAT_COMPAT, the machine has a pair of 8259 controllers too (`supports_8259()`).
     pub flags: u32,
-}
-
-impl PhysicalRecord for Madt {
-    const MIN_LENGTH: usize = 44;
-
-    #[inline(always)]
-    fn read(bytes: &[u8]) -> Self {
-        madt_at(bytes)
-    }
-}
-
-impl SdtTable for Madt {
-    const NAME: Signature = Signature::MADT;
-
-    fn sdt_header(&self) -> &SdtHeader {
-        &self.header
-    }
 }
 
 impl Madt {

@@ -8,33 +8,13 @@ mod readings;
 use crate::base::bytes::skip;
 use crate::base::memory::handler::{Lender, PhysicalRecord};
 use crate::base::memory::mapping::PhysicalMapping;
-use crate::base::table::SdtTable;
 use crate::base::table::header::SdtHeader;
-use crate::base::table::signature::Signature;
-use readings::{mcfg_at, mcfg_entry_at};
 
 /// The MCFG: regions of memory, each with the configuration space of some PCI buses. Section 5.2.6 reserves
 /// its signature, and its layout is the PCI Firmware Specification's (section 4.1.2). Its entries are after
 /// 44 fixed bytes; a mapping of it returns them.
 pub struct Mcfg {
     header: SdtHeader,
-}
-
-impl PhysicalRecord for Mcfg {
-    const MIN_LENGTH: usize = 44;
-
-    #[inline(always)]
-    fn read(bytes: &[u8]) -> Self {
-        mcfg_at(bytes)
-    }
-}
-
-impl SdtTable for Mcfg {
-    const NAME: Signature = Signature::MCFG;
-
-    fn sdt_header(&self) -> &SdtHeader {
-        &self.header
-    }
 }
 
 /// An entry of an MCFG: a region of memory with the configuration space of the buses of one PCI segment
@@ -52,15 +32,6 @@ pub struct McfgEntry {
     pub bus_number_start: u8,
     /// End Bus Number: the last bus.
     pub bus_number_end: u8,
-}
-
-impl PhysicalRecord for McfgEntry {
-    const MIN_LENGTH: usize = 16;
-
-    #[inline(always)]
-    fn read(bytes: &[u8]) -> Self {
-        mcfg_entry_at(bytes)
-    }
 }
 
 /// The entries of an MCFG, of 16 bytes each, in order (section 5.2.6 reserves the signature). A remainder

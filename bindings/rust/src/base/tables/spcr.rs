@@ -8,15 +8,12 @@ mod readings;
 use crate::base::address::{GenericAddress, RawAddress};
 use crate::base::bytes::{bits, has_bit, text_of};
 use crate::base::error::{AcpiError, AcpiResult};
-use crate::base::memory::handler::{Lender, PhysicalRecord};
+use crate::base::memory::handler::Lender;
 use crate::base::memory::mapping::PhysicalMapping;
-use crate::base::table::SdtTable;
 use crate::base::table::header::SdtHeader;
-use crate::base::table::signature::Signature;
 use crate::flags::Flags;
 pub use flags::{SpcrFlowControl, SpcrInterruptType, SpcrTerminalType};
 pub use interface::SpcrInterfaceType;
-use readings::spcr_at;
 
 /// The Serial Port Console Redirection Table (SPCR): the serial console that the firmware used. Section
 /// 5.2.6 reserves its signature, and its layout is Microsoft's. A field that reaches past the table's end is
@@ -53,23 +50,6 @@ pub struct Spcr {
     precise_baud_rate: u32,
     namespace_length: u16,
     namespace_offset: u16,
-}
-
-impl PhysicalRecord for Spcr {
-    const MIN_LENGTH: usize = 80;
-
-    #[inline(always)]
-    fn read(bytes: &[u8]) -> Self {
-        spcr_at(bytes)
-    }
-}
-
-impl SdtTable for Spcr {
-    const NAME: Signature = Signature::SPCR;
-
-    fn sdt_header(&self) -> &SdtHeader {
-        &self.header
-    }
 }
 
 impl Spcr {

@@ -1,14 +1,8 @@
 //! Entries of the APIC model (ACPI 6.4, sections 5.2.12.2 to 5.2.12.8, 5.2.12.12 and 5.2.12.13).
-ghost use Rattle.acpi_base.specs.Words.{local_apic_at, io_apic_at, interrupt_source_override_at, nmi_source_at, local_apic_nmi_at, local_apic_address_override_at, local_x2apic_at, x2apic_nmi_at};
 
 mod readings;
 
 use super::entry::EntryHeader;
-use crate::memory::handler::PhysicalRecord;
-use readings::{
-    interrupt_source_override_at, io_apic_at, local_apic_address_override_at, local_apic_at,
-    local_apic_nmi_at, local_x2apic_at, nmi_source_at, x2apic_nmi_at,
-};
 
 /// Processor Local APIC: a processor and its local APIC (ACPI 6.4, section 5.2.12.2).
 #[derive(Clone, Copy, Debug)]
@@ -23,18 +17,6 @@ pub struct LocalApicEntry {
     pub flags: u32,
 }
 
-impl PhysicalRecord for LocalApicEntry {
-    const MIN_LENGTH: usize = 8;
-
-    ghost MIN_LENGTH = { 8 };
-
-    ghost reading = { local_apic_at };
-
-    fn read(bytes: &[u8]) -> Self {
-        local_apic_at(bytes)
-    }
-}
-
 /// I/O APIC (ACPI 6.4, section 5.2.12.3).
 #[derive(Clone, Copy, Debug)]
 pub struct IoApicEntry {
@@ -46,18 +28,6 @@ pub struct IoApicEntry {
     pub io_apic_address: u32,
     /// Global System Interrupt Base: the global system interrupt of its first input.
     pub global_system_interrupt_base: u32,
-}
-
-impl PhysicalRecord for IoApicEntry {
-    const MIN_LENGTH: usize = 12;
-
-    ghost MIN_LENGTH = { 12 };
-
-    ghost reading = { io_apic_at };
-
-    fn read(bytes: &[u8]) -> Self {
-        io_apic_at(bytes)
-    }
 }
 
 /// Interrupt Source Override: an ISA interrupt that is not wired to the global system interrupt of
@@ -76,18 +46,6 @@ pub struct InterruptSourceOverrideEntry {
     pub flags: u16,
 }
 
-impl PhysicalRecord for InterruptSourceOverrideEntry {
-    const MIN_LENGTH: usize = 10;
-
-    ghost MIN_LENGTH = { 10 };
-
-    ghost reading = { interrupt_source_override_at };
-
-    fn read(bytes: &[u8]) -> Self {
-        interrupt_source_override_at(bytes)
-    }
-}
-
 /// NMI Source: an interrupt that is to be non-maskable (ACPI 6.4, section 5.2.12.6).
 #[derive(Clone, Copy, Debug)]
 pub struct NmiSourceEntry {
@@ -97,18 +55,6 @@ pub struct NmiSourceEntry {
     pub flags: u16,
     /// Global System Interrupt: the interrupt that is non-maskable.
     pub global_system_interrupt: u32,
-}
-
-impl PhysicalRecord for NmiSourceEntry {
-    const MIN_LENGTH: usize = 8;
-
-    ghost MIN_LENGTH = { 8 };
-
-    ghost reading = { nmi_source_at };
-
-    fn read(bytes: &[u8]) -> Self {
-        nmi_source_at(bytes)
-    }
 }
 
 /// Local APIC NMI: the LINT pin of a local APIC that NMIs are connected to (ACPI 6.4, section
@@ -125,18 +71,6 @@ pub struct LocalApicNmiEntry {
     pub flags: u16,
 }
 
-impl PhysicalRecord for LocalApicNmiEntry {
-    const MIN_LENGTH: usize = 6;
-
-    ghost MIN_LENGTH = { 6 };
-
-    ghost reading = { local_apic_nmi_at };
-
-    fn read(bytes: &[u8]) -> Self {
-        local_apic_nmi_at(bytes)
-    }
-}
-
 /// Local APIC Address Override: a 64-bit address of the local APICs, in place of the 32-bit one in
 /// the MADT itself (ACPI 6.4, section 5.2.12.8).
 #[derive(Clone, Copy, Debug)]
@@ -145,18 +79,6 @@ pub struct LocalApicAddressOverrideEntry {
     pub header: EntryHeader,
     /// Local APIC Address: the physical address at which each processor reaches its local APIC.
     pub local_apic_address: u64,
-}
-
-impl PhysicalRecord for LocalApicAddressOverrideEntry {
-    const MIN_LENGTH: usize = 12;
-
-    ghost MIN_LENGTH = { 12 };
-
-    ghost reading = { local_apic_address_override_at };
-
-    fn read(bytes: &[u8]) -> Self {
-        local_apic_address_override_at(bytes)
-    }
 }
 
 /// Processor Local x2APIC: a processor and its local x2APIC (ACPI 6.4, section 5.2.12.12).
@@ -172,18 +94,6 @@ pub struct LocalX2ApicEntry {
     pub processor_uid: u32,
 }
 
-impl PhysicalRecord for LocalX2ApicEntry {
-    const MIN_LENGTH: usize = 16;
-
-    ghost MIN_LENGTH = { 16 };
-
-    ghost reading = { local_x2apic_at };
-
-    fn read(bytes: &[u8]) -> Self {
-        local_x2apic_at(bytes)
-    }
-}
-
 /// Local x2APIC NMI: the LINT pin of a local x2APIC that NMIs are connected to (ACPI 6.4, section
 /// 5.2.12.13).
 #[derive(Clone, Copy, Debug)]
@@ -196,16 +106,4 @@ pub struct X2ApicNmiEntry {
     pub processor_uid: u32,
     /// LINT# of the local APIC: 0 for LINT0, 1 for LINT1.
     pub nmi_line: u8,
-}
-
-impl PhysicalRecord for X2ApicNmiEntry {
-    const MIN_LENGTH: usize = 12;
-
-    ghost MIN_LENGTH = { 12 };
-
-    ghost reading = { x2apic_nmi_at };
-
-    fn read(bytes: &[u8]) -> Self {
-        x2apic_nmi_at(bytes)
-    }
 }

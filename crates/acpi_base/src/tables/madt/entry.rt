@@ -1,6 +1,6 @@
 //! One entry of a MADT (section 5.2.12).
 ghost use Rattle.std.specs.Prelude.{◌≡◌, ◌≤◌, Some, slice_index};
-ghost use Rattle.acpi_base.specs.Words.{entry_header_at, IsEntry, entry_of, madt_layout};
+ghost use Rattle.acpi_base.specs.Words.{IsEntry, entry_of, madt_layout};
 
 mod readings;
 
@@ -16,7 +16,6 @@ use super::sapic::{IoSapicEntry, LocalSapicEntry, PlatformInterruptSourceEntry};
 use super::wakeup::MultiprocessorWakeupEntry;
 use crate::entries::{EntryLayout, Grammar, Place, Width};
 use crate::memory::handler::PhysicalRecord;
-use readings::entry_header_at;
 
 /// Type and Length: the two bytes that each entry of a MADT begins with (section 5.2.12).
 #[derive(Clone, Copy, Debug)]
@@ -25,19 +24,6 @@ pub struct EntryHeader {
     pub entry_type: u8,
     /// Length: how many bytes the entry has, with these two.
     pub length: u8,
-}
-
-impl PhysicalRecord for EntryHeader {
-    const MIN_LENGTH: usize = 2;
-
-    ghost MIN_LENGTH = { 2 };
-
-    ghost reading = { entry_header_at };
-
-    #[inline(always)]
-    fn read(bytes: &[u8]) -> Self {
-        entry_header_at(bytes)
-    }
 }
 
 /// An entry of a MADT, of types 0 to 0x10, with its fields (section 5.2.12).

@@ -1,11 +1,8 @@
 //! Entries of the SAPIC model (ACPI 6.4, sections 5.2.12.9 to 5.2.12.11).
-ghost use Rattle.acpi_base.specs.Words.{io_sapic_at, local_sapic_at, platform_interrupt_source_at};
 
 mod readings;
 
 use super::entry::EntryHeader;
-use crate::memory::handler::PhysicalRecord;
-use readings::{io_sapic_at, local_sapic_at, platform_interrupt_source_at};
 
 /// I/O SAPIC: one that is used in place of the I/O APIC of the same id (ACPI 6.4, section 5.2.12.9).
 #[derive(Clone, Copy, Debug)]
@@ -18,18 +15,6 @@ pub struct IoSapicEntry {
     pub global_system_interrupt_base: u32,
     /// I/O SAPIC Address: the physical address of its registers.
     pub io_sapic_address: u64,
-}
-
-impl PhysicalRecord for IoSapicEntry {
-    const MIN_LENGTH: usize = 16;
-
-    ghost MIN_LENGTH = { 16 };
-
-    ghost reading = { io_sapic_at };
-
-    fn read(bytes: &[u8]) -> Self {
-        io_sapic_at(bytes)
-    }
 }
 
 /// Local SAPIC: a processor and its local SAPIC. ACPI Processor UID String, the text after the
@@ -48,18 +33,6 @@ pub struct LocalSapicEntry {
     pub flags: u32,
     /// ACPI Processor UID Value: the `_UID` of the processor's object, if that is a number.
     pub processor_uid: u32,
-}
-
-impl PhysicalRecord for LocalSapicEntry {
-    const MIN_LENGTH: usize = 16;
-
-    ghost MIN_LENGTH = { 16 };
-
-    ghost reading = { local_sapic_at };
-
-    fn read(bytes: &[u8]) -> Self {
-        local_sapic_at(bytes)
-    }
 }
 
 /// Platform Interrupt Source: an interrupt of the platform itself (ACPI 6.4, section 5.2.12.11).
@@ -81,16 +54,4 @@ pub struct PlatformInterruptSourceEntry {
     pub global_system_interrupt: u32,
     /// Platform Interrupt Source Flags: bit 0 CPEI Processor Override, another processor may be used.
     pub platform_interrupt_source_flags: u32,
-}
-
-impl PhysicalRecord for PlatformInterruptSourceEntry {
-    const MIN_LENGTH: usize = 16;
-
-    ghost MIN_LENGTH = { 16 };
-
-    ghost reading = { platform_interrupt_source_at };
-
-    fn read(bytes: &[u8]) -> Self {
-        platform_interrupt_source_at(bytes)
-    }
 }

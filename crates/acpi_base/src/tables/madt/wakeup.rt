@@ -1,12 +1,10 @@
 //! The Multiprocessor Wakeup entry and its mailbox, by which processors are woken (section 5.2.12.19).
 ghost use Rattle.std.specs.Prelude.{◌≡◌};
-ghost use Rattle.acpi_base.specs.Words.{multiprocessor_wakeup_at, command_of};
+ghost use Rattle.acpi_base.specs.Words.{command_of};
 
 mod readings;
 
 use super::entry::EntryHeader;
-use crate::memory::handler::PhysicalRecord;
-use readings::multiprocessor_wakeup_at;
 
 /// Multiprocessor Wakeup: the mailbox by which the firmware is requested to wake a processor (section
 /// 5.2.12.19).
@@ -18,18 +16,6 @@ pub struct MultiprocessorWakeupEntry {
     pub mailbox_version: u16,
     /// MailBoxAddress: the physical address of the mailbox.
     pub mailbox_address: u64,
-}
-
-impl PhysicalRecord for MultiprocessorWakeupEntry {
-    const MIN_LENGTH: usize = 16;
-
-    ghost MIN_LENGTH = { 16 };
-
-    ghost reading = { multiprocessor_wakeup_at };
-
-    fn read(bytes: &[u8]) -> Self {
-        multiprocessor_wakeup_at(bytes)
-    }
 }
 
 /// Command: what the firmware is to do by the Multiprocessor Wakeup Mailbox (section 5.2.12.19).

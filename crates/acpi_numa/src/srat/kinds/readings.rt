@@ -1,5 +1,5 @@
 //! Made by scripts/readings: records, as their definitions in specs/ read them from bytes.
-ghost use Rattle.std.specs.Prelude.{◌≡◌, ◌≤◌, length};
+ghost use Rattle.std.specs.Prelude.{length, ◌≡◌, ◌≤◌};
 ghost use Rattle.acpi_numa.specs.SratEntries.{generic_affinity_at, gic_its_affinity_at, gicc_affinity_at, local_apic_affinity_at, local_x2apic_affinity_at, memory_affinity_at};
 
 use super::{

@@ -4,11 +4,6 @@
 mod readings;
 
 use super::entry::EntryHeader;
-use crate::base::memory::handler::PhysicalRecord;
-use readings::{
-    interrupt_source_override_at, io_apic_at, local_apic_address_override_at, local_apic_at, local_apic_nmi_at,
-    local_x2apic_at, nmi_source_at, x2apic_nmi_at,
-};
 
 /// Processor Local APIC: a processor and its local APIC (ACPI 6.4, section 5.2.12.2).
 #[derive(Clone, Copy, Debug)]
@@ -24,16 +19,6 @@ pub struct LocalApicEntry {
     pub flags: u32,
 }
 
-impl PhysicalRecord for LocalApicEntry {
-    const MIN_LENGTH: usize = 8;
-
-    #[inline(always)]
-    fn read(bytes: &[u8]) -> Self {
-        assert!(Self::MIN_LENGTH <= bytes.len());
-        local_apic_at(bytes)
-    }
-}
-
 /// I/O APIC (ACPI 6.4, section 5.2.12.3).
 #[derive(Clone, Copy, Debug)]
 #[repr(C)]
@@ -46,16 +31,6 @@ pub struct IoApicEntry {
     pub io_apic_address: u32,
     /// Global System Interrupt Base: the global system interrupt of its first input.
     pub global_system_interrupt_base: u32,
-}
-
-impl PhysicalRecord for IoApicEntry {
-    const MIN_LENGTH: usize = 12;
-
-    #[inline(always)]
-    fn read(bytes: &[u8]) -> Self {
-        assert!(Self::MIN_LENGTH <= bytes.len());
-        io_apic_at(bytes)
-    }
 }
 
 /// Interrupt Source Override: an ISA interrupt that is not wired to the global system interrupt of
@@ -75,16 +50,6 @@ pub struct InterruptSourceOverrideEntry {
     pub flags: u16,
 }
 
-impl PhysicalRecord for InterruptSourceOverrideEntry {
-    const MIN_LENGTH: usize = 10;
-
-    #[inline(always)]
-    fn read(bytes: &[u8]) -> Self {
-        assert!(Self::MIN_LENGTH <= bytes.len());
-        interrupt_source_override_at(bytes)
-    }
-}
-
 /// NMI Source: an interrupt that is to be non-maskable (ACPI 6.4, section 5.2.12.6).
 #[derive(Clone, Copy, Debug)]
 #[repr(C)]
@@ -95,16 +60,6 @@ pub struct NmiSourceEntry {
     pub flags: u16,
     /// Global System Interrupt: the interrupt that is non-maskable.
     pub global_system_interrupt: u32,
-}
-
-impl PhysicalRecord for NmiSourceEntry {
-    const MIN_LENGTH: usize = 8;
-
-    #[inline(always)]
-    fn read(bytes: &[u8]) -> Self {
-        assert!(Self::MIN_LENGTH <= bytes.len());
-        nmi_source_at(bytes)
-    }
 }
 
 /// Local APIC NMI: the LINT pin of a local APIC that NMIs are connected to (ACPI 6.4, section
@@ -122,16 +77,6 @@ pub struct LocalApicNmiEntry {
     pub flags: u16,
 }
 
-impl PhysicalRecord for LocalApicNmiEntry {
-    const MIN_LENGTH: usize = 6;
-
-    #[inline(always)]
-    fn read(bytes: &[u8]) -> Self {
-        assert!(Self::MIN_LENGTH <= bytes.len());
-        local_apic_nmi_at(bytes)
-    }
-}
-
 /// Local APIC Address Override: a 64-bit address of the local APICs, in place of the 32-bit one in
 /// the MADT itself (ACPI 6.4, section 5.2.12.8).
 #[derive(Clone, Copy, Debug)]
@@ -141,16 +86,6 @@ pub struct LocalApicAddressOverrideEntry {
     pub header: EntryHeader,
     /// Local APIC Address: the physical address at which each processor reaches its local APIC.
     pub local_apic_address: u64,
-}
-
-impl PhysicalRecord for LocalApicAddressOverrideEntry {
-    const MIN_LENGTH: usize = 12;
-
-    #[inline(always)]
-    fn read(bytes: &[u8]) -> Self {
-        assert!(Self::MIN_LENGTH <= bytes.len());
-        local_apic_address_override_at(bytes)
-    }
 }
 
 /// Processor Local x2APIC: a processor and its local x2APIC (ACPI 6.4, section 5.2.12.12).
@@ -167,16 +102,6 @@ pub struct LocalX2ApicEntry {
     pub processor_uid: u32,
 }
 
-impl PhysicalRecord for LocalX2ApicEntry {
-    const MIN_LENGTH: usize = 16;
-
-    #[inline(always)]
-    fn read(bytes: &[u8]) -> Self {
-        assert!(Self::MIN_LENGTH <= bytes.len());
-        local_x2apic_at(bytes)
-    }
-}
-
 /// Local x2APIC NMI: the LINT pin of a local x2APIC that NMIs are connected to (ACPI 6.4, section
 /// 5.2.12.13).
 #[derive(Clone, Copy, Debug)]
@@ -190,14 +115,4 @@ pub struct X2ApicNmiEntry {
     pub processor_uid: u32,
     /// LINT# of the local APIC: 0 for LINT0, 1 for LINT1.
     pub nmi_line: u8,
-}
-
-impl PhysicalRecord for X2ApicNmiEntry {
-    const MIN_LENGTH: usize = 12;
-
-    #[inline(always)]
-    fn read(bytes: &[u8]) -> Self {
-        assert!(Self::MIN_LENGTH <= bytes.len());
-        x2apic_nmi_at(bytes)
-    }
 }

@@ -12,7 +12,6 @@ use super::sapic::{IoSapicEntry, LocalSapicEntry, PlatformInterruptSourceEntry};
 use super::wakeup::MultiprocessorWakeupEntry;
 use crate::base::entries::{EntryLayout, Grammar, Place, Width};
 use crate::base::memory::handler::PhysicalRecord;
-use readings::entry_header_at;
 
 /// Type and Length: the two bytes that each entry of a MADT begins with (section 5.2.12).
 #[derive(Clone, Copy, Debug)]
@@ -22,16 +21,6 @@ pub struct EntryHeader {
     pub entry_type: u8,
     /// Length: how many bytes the entry has, with these two.
     pub length: u8,
-}
-
-impl PhysicalRecord for EntryHeader {
-    const MIN_LENGTH: usize = 2;
-
-    #[inline(always)]
-    fn read(bytes: &[u8]) -> Self {
-        assert!(Self::MIN_LENGTH <= bytes.len());
-        entry_header_at(bytes)
-    }
 }
 
 /// An entry of a MADT, of types 0 to 0x10, with its fields (section 5.2.12).

@@ -5,8 +5,6 @@ mod readings;
 
 use super::entry::EntryHeader;
 use crate::base::extended::ExtendedField;
-use crate::base::memory::handler::PhysicalRecord;
-use readings::{gic_msi_frame_at, gic_redistributor_at, gic_translation_service_at, gicc_at, gicd_at};
 
 /// GIC CPU Interface (GICC): a processor and its interface to the generic interrupt controller. A
 /// field that reaches past the end of a short entry is read as if zeros followed (ACPI 6.4, section
@@ -51,16 +49,6 @@ pub struct GiccEntry {
     pub trbe_interrupt: ExtendedField<u16, 6>,
 }
 
-impl PhysicalRecord for GiccEntry {
-    const MIN_LENGTH: usize = 76;
-
-    #[inline(always)]
-    fn read(bytes: &[u8]) -> Self {
-        assert!(Self::MIN_LENGTH <= bytes.len());
-        gicc_at(bytes)
-    }
-}
-
 /// GIC Distributor (GICD): that of the generic interrupt controller (ACPI 6.4, section 5.2.12.15).
 #[derive(Clone, Copy, Debug)]
 #[repr(C)]
@@ -75,16 +63,6 @@ pub struct GicdEntry {
     pub system_vector_base: u32,
     /// GIC version: that of the controller, 1 to 4. 0: the hardware has it.
     pub gic_version: u8,
-}
-
-impl PhysicalRecord for GicdEntry {
-    const MIN_LENGTH: usize = 24;
-
-    #[inline(always)]
-    fn read(bytes: &[u8]) -> Self {
-        assert!(Self::MIN_LENGTH <= bytes.len());
-        gicd_at(bytes)
-    }
 }
 
 /// GIC MSI Frame: a frame that turns messages into interrupts (ACPI 6.4, section 5.2.12.16).
@@ -105,16 +83,6 @@ pub struct GicMsiFrameEntry {
     pub spi_base: u16,
 }
 
-impl PhysicalRecord for GicMsiFrameEntry {
-    const MIN_LENGTH: usize = 24;
-
-    #[inline(always)]
-    fn read(bytes: &[u8]) -> Self {
-        assert!(Self::MIN_LENGTH <= bytes.len());
-        gic_msi_frame_at(bytes)
-    }
-}
-
 /// GIC Redistributor (GICR): a range of memory that holds redistributors (ACPI 6.4, section 5.2.12.17).
 #[derive(Clone, Copy, Debug)]
 #[repr(C)]
@@ -125,16 +93,6 @@ pub struct GicRedistributorEntry {
     pub discovery_range_base_address: u64,
     /// Discovery Range Length: the number of bytes of the range.
     pub discovery_range_length: u32,
-}
-
-impl PhysicalRecord for GicRedistributorEntry {
-    const MIN_LENGTH: usize = 16;
-
-    #[inline(always)]
-    fn read(bytes: &[u8]) -> Self {
-        assert!(Self::MIN_LENGTH <= bytes.len());
-        gic_redistributor_at(bytes)
-    }
 }
 
 /// GIC Interrupt Translation Service (ITS): it translates messages to interrupts (ACPI 6.4, section
@@ -148,14 +106,4 @@ pub struct GicInterruptTranslationServiceEntry {
     pub id: u32,
     /// Physical Base Address: that of its registers.
     pub physical_base_address: u64,
-}
-
-impl PhysicalRecord for GicInterruptTranslationServiceEntry {
-    const MIN_LENGTH: usize = 20;
-
-    #[inline(always)]
-    fn read(bytes: &[u8]) -> Self {
-        assert!(Self::MIN_LENGTH <= bytes.len());
-        gic_translation_service_at(bytes)
-    }
 }

@@ -4,8 +4,6 @@
 mod readings;
 
 use super::entry::EntryHeader;
-use crate::base::memory::handler::PhysicalRecord;
-use readings::{io_sapic_at, local_sapic_at, platform_interrupt_source_at};
 
 /// I/O SAPIC: one that is used in place of the I/O APIC of the same id (ACPI 6.4, section 5.2.12.9).
 #[derive(Clone, Copy, Debug)]
@@ -19,16 +17,6 @@ pub struct IoSapicEntry {
     pub global_system_interrupt_base: u32,
     /// I/O SAPIC Address: the physical address of its registers.
     pub io_sapic_address: u64,
-}
-
-impl PhysicalRecord for IoSapicEntry {
-    const MIN_LENGTH: usize = 16;
-
-    #[inline(always)]
-    fn read(bytes: &[u8]) -> Self {
-        assert!(Self::MIN_LENGTH <= bytes.len());
-        io_sapic_at(bytes)
-    }
 }
 
 /// Local SAPIC: a processor and its local SAPIC. ACPI Processor UID String, the text after the
@@ -48,16 +36,6 @@ pub struct LocalSapicEntry {
     pub flags: u32,
     /// ACPI Processor UID Value: the `_UID` of the processor's object, if that is a number.
     pub processor_uid: u32,
-}
-
-impl PhysicalRecord for LocalSapicEntry {
-    const MIN_LENGTH: usize = 16;
-
-    #[inline(always)]
-    fn read(bytes: &[u8]) -> Self {
-        assert!(Self::MIN_LENGTH <= bytes.len());
-        local_sapic_at(bytes)
-    }
 }
 
 /// Platform Interrupt Source: an interrupt of the platform itself (ACPI 6.4, section 5.2.12.11).
@@ -80,14 +58,4 @@ pub struct PlatformInterruptSourceEntry {
     pub global_system_interrupt: u32,
     /// Platform Interrupt Source Flags: bit 0 CPEI Processor Override, another processor may be used.
     pub platform_interrupt_source_flags: u32,
-}
-
-impl PhysicalRecord for PlatformInterruptSourceEntry {
-    const MIN_LENGTH: usize = 16;
-
-    #[inline(always)]
-    fn read(bytes: &[u8]) -> Self {
-        assert!(Self::MIN_LENGTH <= bytes.len());
-        platform_interrupt_source_at(bytes)
-    }
 }

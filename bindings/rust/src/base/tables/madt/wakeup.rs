@@ -4,8 +4,6 @@
 mod readings;
 
 use super::entry::EntryHeader;
-use crate::base::memory::handler::PhysicalRecord;
-use readings::multiprocessor_wakeup_at;
 
 /// Multiprocessor Wakeup: the mailbox by which the firmware is requested to wake a processor (section
 /// 5.2.12.19).
@@ -18,16 +16,6 @@ pub struct MultiprocessorWakeupEntry {
     pub mailbox_version: u16,
     /// MailBoxAddress: the physical address of the mailbox.
     pub mailbox_address: u64,
-}
-
-impl PhysicalRecord for MultiprocessorWakeupEntry {
-    const MIN_LENGTH: usize = 16;
-
-    #[inline(always)]
-    fn read(bytes: &[u8]) -> Self {
-        assert!(Self::MIN_LENGTH <= bytes.len());
-        multiprocessor_wakeup_at(bytes)
-    }
 }
 
 /// Command: what the firmware is to do by the Multiprocessor Wakeup Mailbox (section 5.2.12.19).

@@ -1,53 +1,63 @@
 //! Made by scripts/readings: records, as their definitions in specs/ read them from bytes.
-ghost use Rattle.std.specs.Prelude.{◌≡◌, ◌≤◌, length};
 ghost use Rattle.acpi_base.specs.MadtEntries.{io_sapic_at, local_sapic_at, platform_interrupt_source_at};
 
-use super::{
-    EntryHeader, IoSapicEntry, LocalSapicEntry, PhysicalRecord, PlatformInterruptSourceEntry,
-};
+use super::{EntryHeader, IoSapicEntry, LocalSapicEntry, PlatformInterruptSourceEntry};
+use crate::PhysicalRecord;
 use crate::bytes::{field_in, u8_in, u16_in, u32_in};
 
-#[inline(always)]
-pub(crate) fn io_sapic_at(bytes: &[u8]) -> IoSapicEntry
-    requires { 16 ≤ length bytes.now }
-    ensures { result ≡ io_sapic_at bytes.now }
-{
-    IoSapicEntry {
-        header: EntryHeader::read(bytes),
-        io_apic_id: u8_in(bytes, 2), // I/O APIC ID
-        global_system_interrupt_base: u32_in(bytes, 4), // Global System Interrupt Base
-        io_sapic_address: field_in(bytes, 8, 8), // I/O SAPIC Address
+impl PhysicalRecord for IoSapicEntry {
+    const MIN_LENGTH: usize = 16;
+
+    ghost MIN_LENGTH = { 16 };
+
+    ghost reading = { io_sapic_at };
+
+    fn read(bytes: &[u8]) -> Self {
+        IoSapicEntry {
+            header: EntryHeader::read(bytes),
+            io_apic_id: u8_in(bytes, 2), // I/O APIC ID
+            global_system_interrupt_base: u32_in(bytes, 4), // Global System Interrupt Base
+            io_sapic_address: field_in(bytes, 8, 8), // I/O SAPIC Address
+        }
     }
 }
 
-#[inline(always)]
-pub(crate) fn local_sapic_at(bytes: &[u8]) -> LocalSapicEntry
-    requires { 16 ≤ length bytes.now }
-    ensures { result ≡ local_sapic_at bytes.now }
-{
-    LocalSapicEntry {
-        header: EntryHeader::read(bytes),
-        processor_id: u8_in(bytes, 2), // ACPI Processor ID
-        local_sapic_id: u8_in(bytes, 3), // Local SAPIC ID
-        local_sapic_eid: u8_in(bytes, 4), // Local SAPIC EID
-        flags: u32_in(bytes, 8), // Flags (Local APIC Flags)
-        processor_uid: u32_in(bytes, 12), // ACPI Processor UID Value
+impl PhysicalRecord for LocalSapicEntry {
+    const MIN_LENGTH: usize = 16;
+
+    ghost MIN_LENGTH = { 16 };
+
+    ghost reading = { local_sapic_at };
+
+    fn read(bytes: &[u8]) -> Self {
+        LocalSapicEntry {
+            header: EntryHeader::read(bytes),
+            processor_id: u8_in(bytes, 2), // ACPI Processor ID
+            local_sapic_id: u8_in(bytes, 3), // Local SAPIC ID
+            local_sapic_eid: u8_in(bytes, 4), // Local SAPIC EID
+            flags: u32_in(bytes, 8), // Flags (Local APIC Flags)
+            processor_uid: u32_in(bytes, 12), // ACPI Processor UID Value
+        }
     }
 }
 
-#[inline(always)]
-pub(crate) fn platform_interrupt_source_at(bytes: &[u8]) -> PlatformInterruptSourceEntry
-    requires { 16 ≤ length bytes.now }
-    ensures { result ≡ platform_interrupt_source_at bytes.now }
-{
-    PlatformInterruptSourceEntry {
-        header: EntryHeader::read(bytes),
-        flags: u16_in(bytes, 2), // Flags (MPS INTI Flags)
-        interrupt_type: u8_in(bytes, 4), // Interrupt Type
-        processor_id: u8_in(bytes, 5), // Processor ID
-        processor_eid: u8_in(bytes, 6), // Processor EID
-        io_sapic_vector: u8_in(bytes, 7), // I/O SAPIC Vector
-        global_system_interrupt: u32_in(bytes, 8), // Global System Interrupt
-        platform_interrupt_source_flags: u32_in(bytes, 12), // Platform Interrupt Source Flags
+impl PhysicalRecord for PlatformInterruptSourceEntry {
+    const MIN_LENGTH: usize = 16;
+
+    ghost MIN_LENGTH = { 16 };
+
+    ghost reading = { platform_interrupt_source_at };
+
+    fn read(bytes: &[u8]) -> Self {
+        PlatformInterruptSourceEntry {
+            header: EntryHeader::read(bytes),
+            flags: u16_in(bytes, 2), // Flags (MPS INTI Flags)
+            interrupt_type: u8_in(bytes, 4), // Interrupt Type
+            processor_id: u8_in(bytes, 5), // Processor ID
+            processor_eid: u8_in(bytes, 6), // Processor EID
+            io_sapic_vector: u8_in(bytes, 7), // I/O SAPIC Vector
+            global_system_interrupt: u32_in(bytes, 8), // Global System Interrupt
+            platform_interrupt_source_flags: u32_in(bytes, 12), // Platform Interrupt Source Flags
+        }
     }
 }
