@@ -1,4 +1,5 @@
-//! Memory of an allocator: vectors of a fixed capacity, and what fails where a limit is reached.
+//! Memory of an allocator: vectors of a fixed capacity, slices and their items, and what fails where a limit is
+//! reached.
 #![cfg_attr(feature = "allocator_api", feature(allocator_api))]
 mod common;
 use common::{Memory, ROOT};
@@ -99,6 +100,85 @@ fn is_a_slice() {
     assert_eq!((slice.len(), slice.iter().max(), format!("{slice:?}")), (3, Some(&7), "[6, 7, 6]".into()));
     assert_eq!((&slice).into_iter().count(), 3);
     assert_eq!(slice.try_clone().unwrap().as_slice(), slice.as_slice());
+}
+
+/// Sevens, of which one is a nine afterwards: a clone that was made before has sevens.
+#[test]
+fn a_clone_keeps_what_is_written_over() {
+    for (count, place) in [(3, 1), (0, 0), (5000, 4999)] {
+        let mut written = vec![7u8; count];
+        let mut slice = ManagedSlice::new(count, 7u8).unwrap();
+        assert_eq!(slice.as_slice(), written);
+        let clone = slice.try_clone().unwrap();
+        if count > 0 {
+            (slice.as_mut_slice()[place], written[place]) = (9, 9);
+        }
+        assert_eq!((slice.as_slice(), clone.as_slice()), (&written[..], &vec![7; count][..]));
+    }
+}
+
+/// An item that counts how many of its kind there are.
+struct Counted<'c>(&'c Cell<u32>);
+
+impl<'c> Counted<'c> {
+    fn new(alive: &'c Cell<u32>) -> Self {
+        alive.set(alive.get() + 1);
+        Counted(alive)
+    }
+}
+
+impl Clone for Counted<'_> {
+    fn clone(&self) -> Self {
+        Counted::new(self.0)
+    }
+}
+
+impl Drop for Counted<'_> {
+    fn drop(&mut self) {
+        self.0.set(self.0.get() - 1);
+    }
+}
+
+/// How many items there are after a slice is made, after it is cloned, after it is dropped, and after the clone is.
+#[test]
+fn each_item_is_dropped_once() {
+    let alive = Cell::new(0);
+    for count in [5, 0, 5000] {
+        let slice = ManagedSlice::new(count as usize, Counted::new(&alive)).unwrap();
+        let made = alive.get();
+        let clone = slice.try_clone().unwrap();
+        let cloned = alive.get();
+        drop(slice);
+        let left = alive.get();
+        drop(clone);
+        assert_eq!([made, cloned, left, alive.get()], [count, 2 * count, count, 0]);
+    }
+    // If there is no memory for them, the value goes too.
+    let refused = ManagedSlice::new_in(5, Counted::new(&alive), &Limit::new(0)).err();
+    assert_eq!((refused, alive.get()), (Some(AcpiError::AllocError), 0));
+}
+
+#[test]
+fn a_limit_that_is_too_low_refuses_and_stays_unused() {
+    let limit = Limit::new(64);
+    assert_eq!(ManagedSlice::new_in(64, 7u64, &limit).err(), Some(AcpiError::AllocError));
+    assert_eq!(limit.1.get(), 0);
+    // There is room for one of 64 bytes, and then none for a clone.
+    let whole = ManagedSlice::new_in(8, 7u64, &limit).unwrap();
+    assert_eq!((limit.1.get(), whole.try_clone().err(), limit.1.get()), (64, Some(AllocError), 64));
+    assert_eq!(whole.as_slice(), [7; 8]);
+    drop(whole);
+    assert_eq!(limit.1.get(), 0);
+}
+
+#[test]
+fn no_items_need_no_memory() {
+    let limit = Limit::new(16);
+    let all = ManagedSlice::new_in(16, 7u8, &limit).unwrap();
+    assert_eq!((limit.1.get(), all.len()), (16, 16));
+    let none = ManagedSlice::new_in(0, 7u64, &limit).unwrap();
+    assert_eq!((none.len(), none.try_clone().map(|clone| clone.len())), (0, Ok(0)));
+    assert_eq!(ManagedSlice::new_in(1, 7u64, &limit).err(), Some(AcpiError::AllocError));
 }
 
 /// A FADT (section 5.2.9) and a MADT (section 5.2.12) of two Processor Local APICs and an I/O APIC (section 5.2.12.3).

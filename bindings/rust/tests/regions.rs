@@ -35,6 +35,50 @@ fn a_region_is_memory() {
     );
 }
 
+/// A region of so many bytes.
+fn region(start: u64, count: usize) -> Result<MappedRegion<'static>, RegionError> {
+    MappedRegion::new(start, &[1, 2, 3, 4][..count])
+}
+
+/// How many bytes are mapped for each request, if any are.
+fn lent<const N: usize>(memory: &impl AcpiHandler, requests: [(u64, usize); N]) -> [Option<usize>; N] {
+    requests.map(|(address, size)| memory.map_physical_region(address, size).map(<[u8]>::len).ok())
+}
+
+/// What is mapped goes up to the end of its region, also where another one adjoins, and never beyond it.
+#[test]
+fn a_request_is_inside_of_one_region() {
+    let one = region(0x1000, 4).unwrap();
+    assert_eq!(lent(&one, [(0x1000, 1), (0x1003, 1)]), [Some(4), Some(1)]);
+    assert_eq!(lent(&one, [(0xfff, 1), (0x1000, 5), (0x1003, 2), (0x1004, 1), (u64::MAX, 1)]), [None; 5]);
+    let regions = [one, region(0x1004, 2).unwrap(), region(0x2000, 1).unwrap()];
+    let three = MappedRegions::new(&regions).unwrap();
+    let found = lent(&three, [(0x1000, 4), (0x1003, 1), (0x1004, 2), (0x2000, 1)]);
+    assert_eq!(found, [Some(4), Some(1), Some(2), Some(1)]);
+    assert_eq!(lent(&three, [(0x1003, 2), (0x1006, 1), (0x2001, 1), (0xfff, 1)]), [None; 4]);
+}
+
+/// Where two regions start and how many bytes they have, and why they are no memory.
+#[test]
+fn regions_that_are_no_memory_are_refused() {
+    let pairs = [
+        ((0x1000, 4), (0x1004, 1), Ok(())),
+        ((0x1000, 4), (0x1003, 1), Err(RegionError::Overlap)),
+        ((0x1000, 1), (0x1000, 1), Err(RegionError::Overlap)),
+        ((0x1000, 1), (0xfff, 1), Err(RegionError::NotAscending)),
+        ((0x1000, 1), (u64::MAX, 1), Err(RegionError::EndTooLarge)),
+        ((0x1000, 1), (u64::MAX - 1, 1), Ok(())),
+        ((0x1000, 0), (0x1000, 1), Ok(())),
+    ];
+    let memory = |first: (u64, usize), second: (u64, usize)| {
+        let regions = [region(first.0, first.1)?, region(second.0, second.1)?];
+        MappedRegions::new(&regions).map(|_| ())
+    };
+    for (first, second, wanted) in pairs {
+        assert_eq!(memory(first, second), wanted, "{first:x?} {second:x?}");
+    }
+}
+
 /// Ranges that overlap, without 256 bytes, inside of a window; and one that ends above 2^64 - 1.
 #[test]
 fn clips_ranges() {
