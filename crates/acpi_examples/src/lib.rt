@@ -12,4 +12,6 @@ pub mod processors;
 pub mod reserved;
 pub mod resolved;
 pub mod table_type;
+#[cfg(test)]
+mod tests;
 pub mod writer;
