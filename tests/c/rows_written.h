@@ -1,5 +1,5 @@
 /* Rows of the calls that write a table, with each byte that they have to write, worked out by hand from the layouts.
- * For rows.c. What no record of C can say is in crates/acpi_tests/src/written. */
+ * For rows.c. What no record of C can say is in bindings/rust/tests/written_bytes. */
 #ifndef ROWS_WRITTEN_H
 #define ROWS_WRITTEN_H
 
