@@ -1,21 +1,11 @@
 //! Codes of interrupts and serial ports: the number by which a table encodes each value of an enumeration, and the
 //! value of a number.
-ghost use Rattle.std.specs.Prelude.{◌≡◌, ◌≤◌};
-ghost use Rattle.acpi_base.specs.Words.{interface_code, interface_of, line_code, line_of, polarity_code, polarity_for, processor_for, trigger_code, trigger_for, uid_code};
+ghost use Rattle.std.specs.Prelude.{◌≡◌};
+ghost use Rattle.acpi_base.specs.Words.{interface_code, interface_of, line_of, polarity_for, trigger_for};
 
 use crate::error::MadtError;
-use crate::model::{LocalInterruptLine, NmiProcessor, Polarity, TriggerMode};
+use crate::model::{LocalInterruptLine, Polarity, TriggerMode};
 use crate::spcr::SpcrInterfaceType;
-
-impl Polarity {
-    /// Its code: Polarity, bits 0 and 1 of MPS INTI Flags (ACPI 6.4, section 5.2.12.5).
-    pub fn code(self) -> u8
-        ensures value { result ≡ polarity_code self }
-        ensures small { result ≤ 3 }
-    {
-        self as u8
-    }
-}
 
 impl TryFrom<u8> for Polarity {
     type Error = MadtError;
@@ -30,16 +20,6 @@ impl TryFrom<u8> for Polarity {
             3 => Ok(Polarity::ActiveLow),
             _ => Err(MadtError::MpsIntiInvalidPolarity),
         }
-    }
-}
-
-impl TriggerMode {
-    /// Its code: Trigger Mode, bits 2 and 3 of MPS INTI Flags (ACPI 6.4, section 5.2.12.5).
-    pub fn code(self) -> u8
-        ensures value { result ≡ trigger_code self }
-        ensures small { result ≤ 3 }
-    {
-        self as u8
     }
 }
 
@@ -59,15 +39,6 @@ impl TryFrom<u8> for TriggerMode {
     }
 }
 
-impl LocalInterruptLine {
-    /// Its number: LINT# (ACPI 6.4, sections 5.2.12.7 and 5.2.12.13).
-    pub fn code(self) -> u8
-        ensures { result ≡ line_code self }
-    {
-        self as u8
-    }
-}
-
 impl TryFrom<u8> for LocalInterruptLine {
     type Error = MadtError;
 
@@ -79,34 +50,6 @@ impl TryFrom<u8> for LocalInterruptLine {
             0 => Ok(LocalInterruptLine::Lint0),
             1 => Ok(LocalInterruptLine::Lint1),
             _ => Err(MadtError::InvalidLocalNmiLine),
-        }
-    }
-}
-
-impl NmiProcessor {
-    /// The UID that means all processors in a Local APIC NMI (ACPI 6.4, section 5.2.12.7).
-    pub const ALL_APICS: u32 = 0xff;
-    /// The UID that means all processors in a Local x2APIC NMI (ACPI 6.4, section 5.2.12.13).
-    pub const ALL_X2APICS: u32 = 0xffffffff;
-
-    /// Its ACPI Processor UID, if `all` means all processors.
-    pub fn uid(self, all: u32) -> u32
-        ensures { result ≡ uid_code all self }
-    {
-        match self {
-            NmiProcessor::All => all,
-            NmiProcessor::ProcessorUid(uid) => uid,
-        }
-    }
-
-    /// The processor of an ACPI Processor UID, if `all` means all processors.
-    pub fn from_uid(uid: u32, all: u32) -> NmiProcessor
-        ensures { result ≡ processor_for all uid }
-    {
-        if uid == all {
-            NmiProcessor::All
-        } else {
-            NmiProcessor::ProcessorUid(uid)
         }
     }
 }

@@ -1,7 +1,7 @@
 //! The Generic Address Structure (GAS): a register, by a number in one of several address spaces (section
 //! 5.2.3.2).
 ghost use Rattle.std.specs.Prelude.{◌≡◌};
-ghost use Rattle.acpi_bytes.specs.Words.{generic_address_of, filled_part};
+ghost use Rattle.acpi_bytes.specs.Words.{generic_address_of, filled_part, size_code};
 
 use crate::bytes::{field_in, filled, u8_in};
 use crate::error::AcpiResult;
@@ -52,6 +52,15 @@ pub enum AccessSize {
     DWordAccess = 3,
     /// QWord access: eight bytes.
     QWordAccess = 4,
+}
+
+impl AccessSize {
+    /// Its code: Access Size (section 5.2.3.2).
+    pub fn code(self) -> u8
+        ensures { result ≡ size_code self }
+    {
+        self as u8
+    }
 }
 
 /// The twelve bytes of a Generic Address Structure, as a table has them (section 5.2.3.2).

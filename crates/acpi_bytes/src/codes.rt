@@ -1,7 +1,7 @@
 //! Codes of generic addresses: the number by which a table encodes each value of an enumeration, and the value of a
 //! number.
 ghost use Rattle.std.specs.Prelude.{◌≡◌};
-ghost use Rattle.acpi_bytes.specs.Words.{access_size_of, size_code, space_code, space_of};
+ghost use Rattle.acpi_bytes.specs.Words.{access_size_of, space_code, space_of};
 
 use crate::address::{AccessSize, AddressSpace};
 use crate::error::{AcpiError, AcpiResult};
@@ -54,15 +54,6 @@ impl TryFrom<u8> for AddressSpace {
             0xc0..=0xff => Ok(AddressSpace::OemDefined(code)),
             _ => Err(AcpiError::InvalidGenericAddress),
         }
-    }
-}
-
-impl AccessSize {
-    /// Its code: Access Size (section 5.2.3.2).
-    pub fn code(self) -> u8
-        ensures { result ≡ size_code self }
-    {
-        self as u8
     }
 }
 

@@ -3,15 +3,8 @@
 //! value of a number.
 
 use crate::base::error::MadtError;
-use crate::base::model::{LocalInterruptLine, NmiProcessor, Polarity, TriggerMode};
+use crate::base::model::{LocalInterruptLine, Polarity, TriggerMode};
 use crate::base::spcr::SpcrInterfaceType;
-
-impl Polarity {
-    /// Its code: Polarity, bits 0 and 1 of MPS INTI Flags (ACPI 6.4, section 5.2.12.5).
-    pub fn code(self) -> u8 {
-        self as u8
-    }
-}
 
 impl TryFrom<u8> for Polarity {
     type Error = MadtError;
@@ -24,13 +17,6 @@ impl TryFrom<u8> for Polarity {
             3 => Ok(Polarity::ActiveLow),
             _ => Err(MadtError::MpsIntiInvalidPolarity),
         }
-    }
-}
-
-impl TriggerMode {
-    /// Its code: Trigger Mode, bits 2 and 3 of MPS INTI Flags (ACPI 6.4, section 5.2.12.5).
-    pub fn code(self) -> u8 {
-        self as u8
     }
 }
 
@@ -48,13 +34,6 @@ impl TryFrom<u8> for TriggerMode {
     }
 }
 
-impl LocalInterruptLine {
-    /// Its number: LINT# (ACPI 6.4, sections 5.2.12.7 and 5.2.12.13).
-    pub fn code(self) -> u8 {
-        self as u8
-    }
-}
-
 impl TryFrom<u8> for LocalInterruptLine {
     type Error = MadtError;
 
@@ -65,26 +44,6 @@ impl TryFrom<u8> for LocalInterruptLine {
             1 => Ok(LocalInterruptLine::Lint1),
             _ => Err(MadtError::InvalidLocalNmiLine),
         }
-    }
-}
-
-impl NmiProcessor {
-    /// The UID that means all processors in a Local APIC NMI (ACPI 6.4, section 5.2.12.7).
-    pub const ALL_APICS: u32 = 0xff;
-    /// The UID that means all processors in a Local x2APIC NMI (ACPI 6.4, section 5.2.12.13).
-    pub const ALL_X2APICS: u32 = 0xffffffff;
-
-    /// Its ACPI Processor UID, if `all` means all processors.
-    pub fn uid(self, all: u32) -> u32 {
-        match self {
-            NmiProcessor::All => all,
-            NmiProcessor::ProcessorUid(uid) => uid,
-        }
-    }
-
-    /// The processor of an ACPI Processor UID, if `all` means all processors.
-    pub fn from_uid(uid: u32, all: u32) -> NmiProcessor {
-        if uid == all { NmiProcessor::All } else { NmiProcessor::ProcessorUid(uid) }
     }
 }
 

@@ -53,6 +53,13 @@ pub enum AccessSize {
     QWordAccess = 4,
 }
 
+impl AccessSize {
+    /// Its code: Access Size (section 5.2.3.2).
+    pub fn code(self) -> u8 {
+        self as u8
+    }
+}
+
 /// The twelve bytes of a Generic Address Structure, as a table has them (section 5.2.3.2).
 pub type RawAddress = [u8; 12];
 

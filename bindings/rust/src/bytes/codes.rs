@@ -52,13 +52,6 @@ impl TryFrom<u8> for AddressSpace {
     }
 }
 
-impl AccessSize {
-    /// Its code: Access Size (section 5.2.3.2).
-    pub fn code(self) -> u8 {
-        self as u8
-    }
-}
-
 impl TryFrom<u8> for AccessSize {
     type Error = AcpiError;
 

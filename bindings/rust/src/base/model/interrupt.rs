@@ -35,6 +35,13 @@ pub enum LocalInterruptLine {
     Lint1 = 1,
 }
 
+impl LocalInterruptLine {
+    /// Its number: LINT# (ACPI 6.4, sections 5.2.12.7 and 5.2.12.13).
+    pub fn code(self) -> u8 {
+        self as u8
+    }
+}
+
 /// ACPI Processor UID of a Local APIC NMI or a Local x2APIC NMI: the processor to whose local APIC the NMI
 /// comes (ACPI 6.4, sections 5.2.12.7 and 5.2.12.13).
 #[derive(Clone, Copy, Debug, PartialEq, Eq)]
@@ -43,6 +50,26 @@ pub enum NmiProcessor {
     All,
     /// The processor with this ACPI Processor UID.
     ProcessorUid(u32),
+}
+
+impl NmiProcessor {
+    /// The UID that means all processors in a Local APIC NMI (ACPI 6.4, section 5.2.12.7).
+    pub const ALL_APICS: u32 = 0xff;
+    /// The UID that means all processors in a Local x2APIC NMI (ACPI 6.4, section 5.2.12.13).
+    pub const ALL_X2APICS: u32 = 0xffffffff;
+
+    /// Its ACPI Processor UID, if `all` means all processors.
+    pub fn uid(self, all: u32) -> u32 {
+        match self {
+            NmiProcessor::All => all,
+            NmiProcessor::ProcessorUid(uid) => uid,
+        }
+    }
+
+    /// The processor of an ACPI Processor UID, if `all` means all processors.
+    pub fn from_uid(uid: u32, all: u32) -> NmiProcessor {
+        if uid == all { NmiProcessor::All } else { NmiProcessor::ProcessorUid(uid) }
+    }
 }
 
 /// Polarity: the level at which an interrupt counts as raised (MPS INTI Flags; ACPI 6.4, section 5.2.12.5).
@@ -56,6 +83,13 @@ pub enum Polarity {
     ActiveLow = 3,
 }
 
+impl Polarity {
+    /// Its code: Polarity, bits 0 and 1 of MPS INTI Flags (ACPI 6.4, section 5.2.12.5).
+    pub fn code(self) -> u8 {
+        self as u8
+    }
+}
+
 /// Trigger Mode: what raises an interrupt (MPS INTI Flags; ACPI 6.4, section 5.2.12.5).
 #[derive(Clone, Copy, Debug, PartialEq, Eq)]
 pub enum TriggerMode {
@@ -65,6 +99,13 @@ pub enum TriggerMode {
     Edge = 1,
     /// Level-triggered: by the level of its polarity, for as long as it stays.
     Level = 3,
+}
+
+impl TriggerMode {
+    /// Its code: Trigger Mode, bits 2 and 3 of MPS INTI Flags (ACPI 6.4, section 5.2.12.5).
+    pub fn code(self) -> u8 {
+        self as u8
+    }
 }
 
 /// Interrupt Source Override: an ISA interrupt that is not wired to the global system interrupt of
