@@ -23,27 +23,13 @@ impl SpcrInterruptType {
     /// Bit 4: RISC-V's PLIC or APLIC, by a global system interrupt.
     pub const RISCV_PLIC: SpcrInterruptType = SpcrInterruptType(1 << 4);
 
+    #[rattlefmt::skip]
     const FLAGS: &'static [Flag<SpcrInterruptType>] = &[
-        Flag {
-            name: "DUAL_8259",
-            value: SpcrInterruptType::DUAL_8259,
-        },
-        Flag {
-            name: "IO_APIC",
-            value: SpcrInterruptType::IO_APIC,
-        },
-        Flag {
-            name: "IO_SAPIC",
-            value: SpcrInterruptType::IO_SAPIC,
-        },
-        Flag {
-            name: "ARMH_GIC",
-            value: SpcrInterruptType::ARMH_GIC,
-        },
-        Flag {
-            name: "RISCV_PLIC",
-            value: SpcrInterruptType::RISCV_PLIC,
-        },
+        Flag { name: "DUAL_8259", value: SpcrInterruptType::DUAL_8259 },
+        Flag { name: "IO_APIC", value: SpcrInterruptType::IO_APIC },
+        Flag { name: "IO_SAPIC", value: SpcrInterruptType::IO_SAPIC },
+        Flag { name: "ARMH_GIC", value: SpcrInterruptType::ARMH_GIC },
+        Flag { name: "RISCV_PLIC", value: SpcrInterruptType::RISCV_PLIC },
     ];
 }
 
@@ -87,23 +73,12 @@ impl SpcrTerminalType {
     /// Bit 3: ANSI.
     pub const ANSI: SpcrTerminalType = SpcrTerminalType(1 << 3);
 
+    #[rattlefmt::skip]
     const FLAGS: &'static [Flag<SpcrTerminalType>] = &[
-        Flag {
-            name: "VT1000",
-            value: SpcrTerminalType::VT1000,
-        },
-        Flag {
-            name: "EXTENDED_VT1000",
-            value: SpcrTerminalType::EXTENDED_VT1000,
-        },
-        Flag {
-            name: "VT_UTF8",
-            value: SpcrTerminalType::VT_UTF8,
-        },
-        Flag {
-            name: "ANSI",
-            value: SpcrTerminalType::ANSI,
-        },
+        Flag { name: "VT1000", value: SpcrTerminalType::VT1000 },
+        Flag { name: "EXTENDED_VT1000", value: SpcrTerminalType::EXTENDED_VT1000 },
+        Flag { name: "VT_UTF8", value: SpcrTerminalType::VT_UTF8 },
+        Flag { name: "ANSI", value: SpcrTerminalType::ANSI },
     ];
 }
 
@@ -144,19 +119,11 @@ impl SpcrFlowControl {
     /// Bit 2, XON/XOFF: by the bytes XON and XOFF.
     pub const XON_XOFF: SpcrFlowControl = SpcrFlowControl(1 << 2);
 
+    #[rattlefmt::skip]
     const FLAGS: &'static [Flag<SpcrFlowControl>] = &[
-        Flag {
-            name: "DCD",
-            value: SpcrFlowControl::DCD,
-        },
-        Flag {
-            name: "RTS_CTS",
-            value: SpcrFlowControl::RTS_CTS,
-        },
-        Flag {
-            name: "XON_XOFF",
-            value: SpcrFlowControl::XON_XOFF,
-        },
+        Flag { name: "DCD", value: SpcrFlowControl::DCD },
+        Flag { name: "RTS_CTS", value: SpcrFlowControl::RTS_CTS },
+        Flag { name: "XON_XOFF", value: SpcrFlowControl::XON_XOFF },
     ];
 }
 

@@ -23,6 +23,7 @@ impl SpcrInterruptType {
     /// Bit 4: RISC-V's PLIC or APLIC, by a global system interrupt.
     pub const RISCV_PLIC: SpcrInterruptType = SpcrInterruptType(1 << 4);
 
+    #[rustfmt::skip]
     const FLAGS: &'static [Flag<SpcrInterruptType>] = &[
         Flag { name: "DUAL_8259", value: SpcrInterruptType::DUAL_8259 },
         Flag { name: "IO_APIC", value: SpcrInterruptType::IO_APIC },
@@ -65,6 +66,7 @@ impl SpcrTerminalType {
     /// Bit 3: ANSI.
     pub const ANSI: SpcrTerminalType = SpcrTerminalType(1 << 3);
 
+    #[rustfmt::skip]
     const FLAGS: &'static [Flag<SpcrTerminalType>] = &[
         Flag { name: "VT1000", value: SpcrTerminalType::VT1000 },
         Flag { name: "EXTENDED_VT1000", value: SpcrTerminalType::EXTENDED_VT1000 },
@@ -103,6 +105,7 @@ impl SpcrFlowControl {
     /// Bit 2, XON/XOFF: by the bytes XON and XOFF.
     pub const XON_XOFF: SpcrFlowControl = SpcrFlowControl(1 << 2);
 
+    #[rustfmt::skip]
     const FLAGS: &'static [Flag<SpcrFlowControl>] = &[
         Flag { name: "DCD", value: SpcrFlowControl::DCD },
         Flag { name: "RTS_CTS", value: SpcrFlowControl::RTS_CTS },
