@@ -12,7 +12,7 @@ use Rattle.acpi_numa.specs.declared.srat.kinds.MemoryAffinity.{MemoryAffinity}
 abbrev pub domain_since_2 : ℕ → ℕ → ℕ → ℕ
 domain_since_2 revision lowest whole = if nat_lt revision 2 then lowest else whole
 
--- Processor Local APIC/SAPIC Affinity Structure (section 5.2.16.1): Proximity Domain [7:0] at 2, Proximity Domain
+-- Processor Local APIC/SAPIC Affinity Structure, at least 16 bytes (section 5.2.16.1): Proximity Domain [7:0] at 2, Proximity Domain
 -- [31:8] at 9
 abbrev pub local_apic_affinity_at : ℕ → List ℕ → LocalApicAffinity
 local_apic_affinity_at revision b = record {
@@ -23,7 +23,7 @@ local_apic_affinity_at revision b = record {
   clock_domain = field_of b 12 4;  -- Clock Domain
 }
 
--- Memory Affinity Structure (section 5.2.16.2)
+-- Memory Affinity Structure, at least 40 bytes (section 5.2.16.2)
 abbrev pub memory_affinity_at : ℕ → List ℕ → MemoryAffinity
 memory_affinity_at revision b = record {
   domain = domain_since_2 revision (field_of b 2 1) (field_of b 2 4);  -- Proximity Domain
@@ -32,7 +32,7 @@ memory_affinity_at revision b = record {
   flags = field_of b 28 4;  -- Flags
 }
 
--- Processor Local x2APIC Affinity Structure (section 5.2.16.3)
+-- Processor Local x2APIC Affinity Structure, at least 24 bytes (section 5.2.16.3)
 abbrev pub local_x2apic_affinity_at : List ℕ → LocalX2ApicAffinity
 local_x2apic_affinity_at b = record {
   domain = field_of b 4 4;  -- Proximity Domain
@@ -41,7 +41,7 @@ local_x2apic_affinity_at b = record {
   clock_domain = field_of b 16 4;  -- Clock Domain
 }
 
--- GICC Affinity Structure (section 5.2.16.4)
+-- GICC Affinity Structure, at least 18 bytes (section 5.2.16.4)
 abbrev pub gicc_affinity_at : List ℕ → GiccAffinity
 gicc_affinity_at b = record {
   domain = field_of b 2 4;  -- Proximity Domain
@@ -50,15 +50,15 @@ gicc_affinity_at b = record {
   clock_domain = field_of b 14 4;  -- Clock Domain
 }
 
--- GIC Interrupt Translation Service (ITS) Affinity Structure (section 5.2.16.5)
+-- GIC Interrupt Translation Service (ITS) Affinity Structure, at least 12 bytes (section 5.2.16.5)
 abbrev pub gic_its_affinity_at : List ℕ → GicItsAffinity
 gic_its_affinity_at b = record {
   domain = field_of b 2 4;  -- Proximity Domain
   its_id = field_of b 8 4;  -- ITS ID
 }
 
--- Generic Initiator Affinity Structure (section 5.2.16.6), and Generic Port Affinity Structure (section 5.2.16.7),
--- which has the same fields
+-- Generic Initiator Affinity Structure, at least 32 bytes (section 5.2.16.6), and Generic Port Affinity Structure
+-- (section 5.2.16.7), which has the same fields
 abbrev pub generic_affinity_at : List ℕ → GenericAffinity
 generic_affinity_at b = record {
   handle_type = field_of b 3 1;  -- Device Handle Type

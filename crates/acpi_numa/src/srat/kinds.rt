@@ -32,11 +32,6 @@ pub struct LocalApicAffinity {
     pub clock_domain: u32,
 }
 
-impl LocalApicAffinity {
-    /// The least length of the entry, in bytes.
-    pub(super) const MIN_LENGTH: usize = 16;
-}
-
 /// Memory Affinity Structure: the domain of a range of memory (section 5.2.16.2).
 #[derive(Clone, Copy, Debug)]
 pub struct MemoryAffinity {
@@ -52,9 +47,6 @@ pub struct MemoryAffinity {
 }
 
 impl MemoryAffinity {
-    /// The least length of the entry, in bytes.
-    pub(super) const MIN_LENGTH: usize = 40;
-
     /// Hot Pluggable (bit 1 of the flags, section 5.2.16.2): whether the memory can be plugged in while the
     /// machine runs.
     pub fn is_hot_pluggable(&self) -> bool
@@ -85,11 +77,6 @@ pub struct LocalX2ApicAffinity {
     pub clock_domain: u32,
 }
 
-impl LocalX2ApicAffinity {
-    /// The least length of the entry, in bytes.
-    pub(super) const MIN_LENGTH: usize = 24;
-}
-
 /// GICC Affinity Structure: the domain of a processor with an interface to the Generic Interrupt Controller
 /// (GIC; section 5.2.16.4).
 #[derive(Clone, Copy, Debug)]
@@ -104,11 +91,6 @@ pub struct GiccAffinity {
     pub clock_domain: u32,
 }
 
-impl GiccAffinity {
-    /// The least length of the entry, in bytes.
-    pub(super) const MIN_LENGTH: usize = 18;
-}
-
 /// GIC Interrupt Translation Service (ITS) Affinity Structure: the domain of such a service (section
 /// 5.2.16.5). It has no flags.
 #[derive(Clone, Copy, Debug)]
@@ -117,11 +99,6 @@ pub struct GicItsAffinity {
     pub domain: u32,
     /// ITS ID: the id of the service.
     pub its_id: u32,
-}
-
-impl GicItsAffinity {
-    /// The least length of the entry, in bytes.
-    pub(super) const MIN_LENGTH: usize = 12;
 }
 
 /// Generic Initiator Affinity Structure: the domain of a device that reads and writes memory by itself
@@ -142,9 +119,6 @@ pub struct GenericAffinity {
 }
 
 impl GenericAffinity {
-    /// The least length of the entry, in bytes.
-    pub(super) const MIN_LENGTH: usize = 32;
-
     /// Architectural Transactions (bit 1 of the flags, section 5.2.16.6): whether all transactions of the
     /// device are architectural ones.
     pub fn has_architectural_transactions(&self) -> bool

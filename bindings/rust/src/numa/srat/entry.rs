@@ -48,15 +48,7 @@ pub const SRAT_GRAMMAR: Grammar<7> = Grammar {
     layout: EntryLayout {
         kind_place: Place { at: 0, width: Width::One },
         length_place: Place { at: 1, width: Width::One },
-        least_lengths: [
-            LocalApicAffinity::MIN_LENGTH,
-            MemoryAffinity::MIN_LENGTH,
-            LocalX2ApicAffinity::MIN_LENGTH,
-            GiccAffinity::MIN_LENGTH,
-            GicItsAffinity::MIN_LENGTH,
-            GenericAffinity::MIN_LENGTH,
-            GenericAffinity::MIN_LENGTH,
-        ],
+        least_lengths: [16, 40, 24, 18, 12, 32, 32],
         least_of_others: 2,
     },
     most: None,
