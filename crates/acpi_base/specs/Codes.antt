@@ -17,6 +17,7 @@ polarity_code polarity.ActiveLow = 3
 abbrev pub polarities : List Polarity
 polarities = polarity.SameAsBus ∷ polarity.ActiveHigh ∷ polarity.ActiveLow ∷ []
 
+-- the polarity of a code. Fails for other codes, which are reserved, with `MpsIntiInvalidPolarity`
 abbrev pub polarity_for : ℕ → Result Polarity MadtError
 polarity_for code = decoded polarity_code polarities MpsIntiInvalidPolarity code
 
@@ -29,6 +30,7 @@ trigger_code trigger.Level = 3
 abbrev pub trigger_modes : List TriggerMode
 trigger_modes = trigger.SameAsBus ∷ trigger.Edge ∷ trigger.Level ∷ []
 
+-- the trigger mode of a code. Fails for other codes, which are reserved, with `MpsIntiInvalidTriggerMode`
 abbrev pub trigger_for : ℕ → Result TriggerMode MadtError
 trigger_for code = decoded trigger_code trigger_modes MpsIntiInvalidTriggerMode code
 
@@ -40,6 +42,7 @@ line_code Lint1 = 1
 abbrev pub local_lines : List LocalInterruptLine
 local_lines = Lint0 ∷ Lint1 ∷ []
 
+-- the pin of a number. Fails for other numbers than 0 and 1 with `InvalidLocalNmiLine`
 abbrev pub line_of : ℕ → Result LocalInterruptLine MadtError
 line_of code = decoded line_code local_lines InvalidLocalNmiLine code
 
@@ -70,9 +73,11 @@ interfaces =
     ∷ interface.ArmDCC ∷ interface.Bcm2835 ∷ interface.Sdm845_18432 ∷ interface.Generic16550
     ∷ interface.Sdm845_7372 ∷ interface.IntelLPSS ∷ interface.RiscVSbi ∷ []
 
+-- the interface of a code of Interface Type
 abbrev pub interface_of : ℕ → SpcrInterfaceType
 interface_of code = slice_index_or interfaces code (interface.Unknown code)
 
+-- its code: Interface Type of the SPCR
 abbrev pub interface_code : SpcrInterfaceType → ℕ
 interface_code interface.Full16550 = 0x00
 interface_code interface.Full16450 = 0x01

@@ -1,9 +1,8 @@
-//! Codes of interrupts and serial ports: the number by which a table encodes each value of an enumeration, and the
-//! value of a number.
+//! Made by scripts/codes: codes of values, and values of codes, as definitions in specs/ have them.
 ghost use Rattle.std.specs.Prelude.{◌≡◌};
-ghost use Rattle.acpi_base.specs.Words.{interface_code, interface_of, line_of, polarity_for, trigger_for};
+ghost use Rattle.acpi_base.specs.Codes.{interface_code, interface_of, line_of, polarity_for, trigger_for};
 
-use crate::error::MadtError;
+use crate::MadtError;
 use crate::model::{LocalInterruptLine, Polarity, TriggerMode};
 use crate::spcr::SpcrInterfaceType;
 
@@ -54,38 +53,6 @@ impl TryFrom<u8> for LocalInterruptLine {
     }
 }
 
-impl SpcrInterfaceType {
-    /// Its code: Interface Type of the SPCR.
-    pub fn code(self) -> u8
-        ensures { result ≡ interface_code self }
-    {
-        match self {
-            SpcrInterfaceType::Full16550 => 0x00,
-            SpcrInterfaceType::Full16450 => 0x01,
-            SpcrInterfaceType::MAX311xE => 0x02,
-            SpcrInterfaceType::ArmPL011 => 0x03,
-            SpcrInterfaceType::MSM8x60 => 0x04,
-            SpcrInterfaceType::Nvidia16550 => 0x05,
-            SpcrInterfaceType::TiOmap => 0x06,
-            SpcrInterfaceType::APM88xxxx => 0x08,
-            SpcrInterfaceType::Msm8974 => 0x09,
-            SpcrInterfaceType::Sam5250 => 0x0a,
-            SpcrInterfaceType::IntelUSIF => 0x0b,
-            SpcrInterfaceType::Imx6 => 0x0c,
-            SpcrInterfaceType::ArmSBSAGeneric32bit => 0x0d,
-            SpcrInterfaceType::ArmSBSAGeneric => 0x0e,
-            SpcrInterfaceType::ArmDCC => 0x0f,
-            SpcrInterfaceType::Bcm2835 => 0x10,
-            SpcrInterfaceType::Sdm845_18432 => 0x11,
-            SpcrInterfaceType::Generic16550 => 0x12,
-            SpcrInterfaceType::Sdm845_7372 => 0x13,
-            SpcrInterfaceType::IntelLPSS => 0x14,
-            SpcrInterfaceType::RiscVSbi => 0x15,
-            SpcrInterfaceType::Unknown(code) => code,
-        }
-    }
-}
-
 impl From<u8> for SpcrInterfaceType {
     ghost from_gives = { λ code r. r ≡ interface_of code };
 
@@ -114,6 +81,38 @@ impl From<u8> for SpcrInterfaceType {
             0x14 => SpcrInterfaceType::IntelLPSS,
             0x15 => SpcrInterfaceType::RiscVSbi,
             other => SpcrInterfaceType::Unknown(other),
+        }
+    }
+}
+
+impl SpcrInterfaceType {
+    /// Its code: Interface Type of the SPCR.
+    pub fn code(self) -> u8
+        ensures { result ≡ interface_code self }
+    {
+        match self {
+            SpcrInterfaceType::Full16550 => 0x00,
+            SpcrInterfaceType::Full16450 => 0x01,
+            SpcrInterfaceType::MAX311xE => 0x02,
+            SpcrInterfaceType::ArmPL011 => 0x03,
+            SpcrInterfaceType::MSM8x60 => 0x04,
+            SpcrInterfaceType::Nvidia16550 => 0x05,
+            SpcrInterfaceType::TiOmap => 0x06,
+            SpcrInterfaceType::APM88xxxx => 0x08,
+            SpcrInterfaceType::Msm8974 => 0x09,
+            SpcrInterfaceType::Sam5250 => 0x0a,
+            SpcrInterfaceType::IntelUSIF => 0x0b,
+            SpcrInterfaceType::Imx6 => 0x0c,
+            SpcrInterfaceType::ArmSBSAGeneric32bit => 0x0d,
+            SpcrInterfaceType::ArmSBSAGeneric => 0x0e,
+            SpcrInterfaceType::ArmDCC => 0x0f,
+            SpcrInterfaceType::Bcm2835 => 0x10,
+            SpcrInterfaceType::Sdm845_18432 => 0x11,
+            SpcrInterfaceType::Generic16550 => 0x12,
+            SpcrInterfaceType::Sdm845_7372 => 0x13,
+            SpcrInterfaceType::IntelLPSS => 0x14,
+            SpcrInterfaceType::RiscVSbi => 0x15,
+            SpcrInterfaceType::Unknown(code) => code,
         }
     }
 }

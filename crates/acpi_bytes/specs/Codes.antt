@@ -8,7 +8,7 @@ decoded code_of values refusal code = ok_or (find (λ x. code_of x == code) valu
 
 -- ---- registers (section 5.2.3.2)
 
--- Address Space ID
+-- its code: Address Space ID (section 5.2.3.2)
 abbrev pub space_code : AddressSpace → ℕ
 space_code SystemMemory = 0x00
 space_code SystemIo = 0x01
@@ -24,14 +24,16 @@ space_code PlatformCommunicationsChannel = 0x0a
 space_code FunctionalFixedHardware = 0x7f
 space_code (OemDefined code) = code
 
--- the spaces that have a name
+-- the spaces that have a name; those from 0xc0 on are the makers' own
 abbrev pub named_spaces : List AddressSpace
 named_spaces =
     SystemMemory ∷ SystemIo ∷ PciConfigSpace ∷ EmbeddedController ∷ SMBus ∷ SystemCmos
     ∷ PciBarTarget ∷ Ipmi ∷ GeneralIo ∷ GenericSerialBus ∷ PlatformCommunicationsChannel
     ∷ FunctionalFixedHardware ∷ []
 
--- the space of a code: from 0xc0 on they are the makers' own
+-- the space of a code of Address Space ID (section 5.2.3.2).
+--
+-- Fails for a reserved code with `InvalidGenericAddress`: 0x0b to 0xbf, but for 0x7f
 abbrev pub space_of : ℕ → Result AddressSpace AcpiError
 space_of code =
     if nat_le 0xc0 code then Ok (OemDefined code)
@@ -53,6 +55,9 @@ size_code QWordAccess = 4
 abbrev pub access_sizes : List AccessSize
 access_sizes = Undefined ∷ ByteAccess ∷ WordAccess ∷ DWordAccess ∷ QWordAccess ∷ []
 
+-- the access size of a code of Access Size (section 5.2.3.2).
+--
+-- Fails for a reserved code with `InvalidGenericAddress`: 5 and above
 abbrev pub access_size_of : ℕ → Result AccessSize AcpiError
 access_size_of code = decoded size_code access_sizes InvalidGenericAddress code
 

@@ -1,7 +1,6 @@
-//! Codes of generic addresses: the number by which a table encodes each value of an enumeration, and the value of a
-//! number.
+//! Made by scripts/codes: codes of values, and values of codes, as definitions in specs/ have them.
 ghost use Rattle.std.specs.Prelude.{◌≡◌};
-ghost use Rattle.acpi_bytes.specs.Words.{access_size_of, space_code, space_of};
+ghost use Rattle.acpi_bytes.specs.Codes.{access_size_of, space_code, space_of};
 
 use crate::address::{AccessSize, AddressSpace};
 use crate::error::{AcpiError, AcpiResult};

@@ -7,7 +7,7 @@ use Rattle.acpi_c_lib.specs.Types.{AcpiError, MadtError, Signature, Refusal, Wri
 use Rattle.acpi_c_lib.specs.declared.refusal.Refusal.TheVariants as refusal
 use Rattle.acpi_table_writer.specs.declared.error.WriterError.TheVariants as writer
 
--- the errors of a MADT's entries (section 5.2.12)
+-- the number of an error of the MADT's entries (section 5.2.12); 99 is for the one that no call returns
 abbrev pub madt_code : MadtError → ℕ
 madt_code madt.UnexpectedEntry = 44
 madt_code madt.InterruptOverrideEntryHasInvalidBus = 45
@@ -36,12 +36,12 @@ acpi_code acpi.InvalidNamespaceString = 99
 acpi_code acpi.AllocError = 99
 acpi_code (acpi.InvalidMadt e) = madt_code e
 
--- the number of one that carries no other, else 0
+-- the number of an error of the crate `acpi` that carries no other, else 0
 abbrev pub own_acpi_code : AcpiError → ℕ
 own_acpi_code (acpi.InvalidMadt e) = 0
 own_acpi_code e = acpi_code e
 
--- why a table is not written
+-- the number of an error of a table that is written; 99 is for the errors that no call returns
 abbrev pub writer_code : WriterError → ℕ
 writer_code writer.NoProcessor = 61
 writer_code writer.IdOfAll = 62
@@ -95,7 +95,7 @@ code_of refusal.BadTable = 73
 code_of (refusal.Writer e) = writer_code e
 code_of (refusal.Acpi e) = acpi_code e
 
--- the number of one that carries no other, else 0
+-- the number of an error that carries no other, else 0
 abbrev pub own_code : Refusal → ℕ
 own_code (refusal.Writer e) = 0
 own_code (refusal.Acpi e) = 0

@@ -46,13 +46,14 @@ fadt_at b = record {
 
 -- ---- what calls return
 
--- Preferred_PM_Profile: the profiles in the order of their codes, from 0 on, the profile of a code, and the code of one
+-- Preferred_PM_Profile: the profiles in the order of their codes, from 0 on, and the code of each
 abbrev pub named_profiles : List PowerProfile
 named_profiles =
     profiles.Unspecified ∷ profiles.Desktop ∷ profiles.Mobile ∷ profiles.Workstation
     ∷ profiles.EnterpriseServer ∷ profiles.SohoServer ∷ profiles.AppliancePc
     ∷ profiles.PerformanceServer ∷ profiles.Tablet ∷ []
 
+-- the profile of a code of Preferred_PM_Profile
 abbrev pub profile_for : ℕ → PowerProfile
 profile_for code = slice_index_or named_profiles code (profiles.Reserved code)
 

@@ -5,6 +5,7 @@ ghost use Rattle.std.proofs.Common.{lit≤};
 ghost use Rattle.acpi_base.specs.Words.{generic_address_of};
 ghost use Rattle.acpi_fixed.specs.Words.{fadt_at, profile_code, profile_for, dsdt_address_of, facs_address_of, profile_of, pm_timer_of, registers_of, HasBlocks, block_of, optional_block_of, register_of};
 
+mod codes;
 mod flags;
 mod places;
 mod registers;
@@ -64,26 +65,6 @@ impl PowerProfile {
             PowerProfile::PerformanceServer => 7,
             PowerProfile::Tablet => 8,
             PowerProfile::Reserved(code) => code,
-        }
-    }
-}
-
-impl From<u8> for PowerProfile {
-    ghost from_gives = { λ code r. r ≡ profile_for code };
-
-    /// The profile of a code of Preferred_PM_Profile.
-    fn from(code: u8) -> PowerProfile {
-        match code {
-            0 => PowerProfile::Unspecified,
-            1 => PowerProfile::Desktop,
-            2 => PowerProfile::Mobile,
-            3 => PowerProfile::Workstation,
-            4 => PowerProfile::EnterpriseServer,
-            5 => PowerProfile::SohoServer,
-            6 => PowerProfile::AppliancePc,
-            7 => PowerProfile::PerformanceServer,
-            8 => PowerProfile::Tablet,
-            other => PowerProfile::Reserved(other),
         }
     }
 }

@@ -1,8 +1,7 @@
 // Made by scripts/erase of crates/acpi_base/src/codes.rt, where it is proved.
-//! Codes of interrupts and serial ports: the number by which a table encodes each value of an enumeration, and the
-//! value of a number.
+//! Made by scripts/codes: codes of values, and values of codes, as definitions in specs/ have them.
 
-use crate::base::error::MadtError;
+use crate::base::MadtError;
 use crate::base::model::{LocalInterruptLine, Polarity, TriggerMode};
 use crate::base::spcr::SpcrInterfaceType;
 
@@ -47,36 +46,6 @@ impl TryFrom<u8> for LocalInterruptLine {
     }
 }
 
-impl SpcrInterfaceType {
-    /// Its code: Interface Type of the SPCR.
-    pub fn code(self) -> u8 {
-        match self {
-            SpcrInterfaceType::Full16550 => 0x00,
-            SpcrInterfaceType::Full16450 => 0x01,
-            SpcrInterfaceType::MAX311xE => 0x02,
-            SpcrInterfaceType::ArmPL011 => 0x03,
-            SpcrInterfaceType::MSM8x60 => 0x04,
-            SpcrInterfaceType::Nvidia16550 => 0x05,
-            SpcrInterfaceType::TiOmap => 0x06,
-            SpcrInterfaceType::APM88xxxx => 0x08,
-            SpcrInterfaceType::Msm8974 => 0x09,
-            SpcrInterfaceType::Sam5250 => 0x0a,
-            SpcrInterfaceType::IntelUSIF => 0x0b,
-            SpcrInterfaceType::Imx6 => 0x0c,
-            SpcrInterfaceType::ArmSBSAGeneric32bit => 0x0d,
-            SpcrInterfaceType::ArmSBSAGeneric => 0x0e,
-            SpcrInterfaceType::ArmDCC => 0x0f,
-            SpcrInterfaceType::Bcm2835 => 0x10,
-            SpcrInterfaceType::Sdm845_18432 => 0x11,
-            SpcrInterfaceType::Generic16550 => 0x12,
-            SpcrInterfaceType::Sdm845_7372 => 0x13,
-            SpcrInterfaceType::IntelLPSS => 0x14,
-            SpcrInterfaceType::RiscVSbi => 0x15,
-            SpcrInterfaceType::Unknown(code) => code,
-        }
-    }
-}
-
 impl From<u8> for SpcrInterfaceType {
     /// The interface of a code of Interface Type.
     fn from(code: u8) -> SpcrInterfaceType {
@@ -103,6 +72,36 @@ impl From<u8> for SpcrInterfaceType {
             0x14 => SpcrInterfaceType::IntelLPSS,
             0x15 => SpcrInterfaceType::RiscVSbi,
             other => SpcrInterfaceType::Unknown(other),
+        }
+    }
+}
+
+impl SpcrInterfaceType {
+    /// Its code: Interface Type of the SPCR.
+    pub fn code(self) -> u8 {
+        match self {
+            SpcrInterfaceType::Full16550 => 0x00,
+            SpcrInterfaceType::Full16450 => 0x01,
+            SpcrInterfaceType::MAX311xE => 0x02,
+            SpcrInterfaceType::ArmPL011 => 0x03,
+            SpcrInterfaceType::MSM8x60 => 0x04,
+            SpcrInterfaceType::Nvidia16550 => 0x05,
+            SpcrInterfaceType::TiOmap => 0x06,
+            SpcrInterfaceType::APM88xxxx => 0x08,
+            SpcrInterfaceType::Msm8974 => 0x09,
+            SpcrInterfaceType::Sam5250 => 0x0a,
+            SpcrInterfaceType::IntelUSIF => 0x0b,
+            SpcrInterfaceType::Imx6 => 0x0c,
+            SpcrInterfaceType::ArmSBSAGeneric32bit => 0x0d,
+            SpcrInterfaceType::ArmSBSAGeneric => 0x0e,
+            SpcrInterfaceType::ArmDCC => 0x0f,
+            SpcrInterfaceType::Bcm2835 => 0x10,
+            SpcrInterfaceType::Sdm845_18432 => 0x11,
+            SpcrInterfaceType::Generic16550 => 0x12,
+            SpcrInterfaceType::Sdm845_7372 => 0x13,
+            SpcrInterfaceType::IntelLPSS => 0x14,
+            SpcrInterfaceType::RiscVSbi => 0x15,
+            SpcrInterfaceType::Unknown(code) => code,
         }
     }
 }

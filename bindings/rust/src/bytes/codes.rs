@@ -1,6 +1,5 @@
 // Made by scripts/erase of crates/acpi_bytes/src/codes.rt, where it is proved.
-//! Codes of generic addresses: the number by which a table encodes each value of an enumeration, and the value of a
-//! number.
+//! Made by scripts/codes: codes of values, and values of codes, as definitions in specs/ have them.
 
 use crate::bytes::address::{AccessSize, AddressSpace};
 use crate::bytes::error::{AcpiError, AcpiResult};

@@ -2,6 +2,7 @@
 //! The Fixed ACPI Description Table (FADT): the registers of the fixed hardware, and its features (section
 //! 5.2.9).
 
+mod codes;
 mod flags;
 mod places;
 mod registers;
@@ -55,24 +56,6 @@ impl PowerProfile {
             PowerProfile::PerformanceServer => 7,
             PowerProfile::Tablet => 8,
             PowerProfile::Reserved(code) => code,
-        }
-    }
-}
-
-impl From<u8> for PowerProfile {
-    /// The profile of a code of Preferred_PM_Profile.
-    fn from(code: u8) -> PowerProfile {
-        match code {
-            0 => PowerProfile::Unspecified,
-            1 => PowerProfile::Desktop,
-            2 => PowerProfile::Mobile,
-            3 => PowerProfile::Workstation,
-            4 => PowerProfile::EnterpriseServer,
-            5 => PowerProfile::SohoServer,
-            6 => PowerProfile::AppliancePc,
-            7 => PowerProfile::PerformanceServer,
-            8 => PowerProfile::Tablet,
-            other => PowerProfile::Reserved(other),
         }
     }
 }

@@ -1,0 +1,22 @@
+// Made by scripts/erase of crates/acpi_fixed/src/fadt/codes.rt, where it is proved.
+//! Made by scripts/codes: codes of values, and values of codes, as definitions in specs/ have them.
+
+use crate::fixed::fadt::PowerProfile;
+
+impl From<u8> for PowerProfile {
+    /// The profile of a code of Preferred_PM_Profile.
+    fn from(code: u8) -> PowerProfile {
+        match code {
+            0 => PowerProfile::Unspecified,
+            1 => PowerProfile::Desktop,
+            2 => PowerProfile::Mobile,
+            3 => PowerProfile::Workstation,
+            4 => PowerProfile::EnterpriseServer,
+            5 => PowerProfile::SohoServer,
+            6 => PowerProfile::AppliancePc,
+            7 => PowerProfile::PerformanceServer,
+            8 => PowerProfile::Tablet,
+            other => PowerProfile::Reserved(other),
+        }
+    }
+}
