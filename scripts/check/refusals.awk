@@ -1,8 +1,8 @@
 # SPDX-License-Identifier: MIT
-# Compares the numbers of errors, and fails if they differ: those of enum zacpi_status_code in include/zacpi.h with those
-# that the crate's refusal.rt gives out, and with the names that zacpi_status_name shows. These two files are what it
-# reads, in this order. Names are compared in the manner of Rust, those of the MADT's errors with `Madt` before them, and
-# those of the SRAT's and of the IOMMUs' without what says that they are.
+# Compares the numbers of errors, and fails if they differ: those of enum zacpi_status_code in include/zacpi.h with
+# those that acpi_c_lib's refusal/codes.rt gives out, and with the names that zacpi_status_name shows. These two files
+# are what it reads, in this order. Names are compared in the manner of Rust, those of the MADT's errors with `Madt`
+# before them, and those of the SRAT's and of the IOMMUs' without what says that they are.
 function complain(what) { print what; differ = 1 }
 function has(number, name) {
     if ((file, number) in name_of) complain(FILENAME ": two names of " number)
@@ -48,7 +48,7 @@ END {
     for (i = 1; i <= most; i++) {
         here = name_of[1, i]
         if (here != shown_name[i]) complain(i ": the header has '" here "', and shows '" shown_name[i] "'")
-        if (here != name_of[2, i]) complain(i ": the header has '" here "', and refusal.rt '" name_of[2, i] "'")
+        if (here != name_of[2, i]) complain(i ": the header has '" here "', and codes.rt '" name_of[2, i] "'")
     }
     if (number != count) complain("the header shows " number " names of " count " numbers")
     if (file != 2 || !found[1] || !found[2]) complain("numbers of one of the two files aren't found")
