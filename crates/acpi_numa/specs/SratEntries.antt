@@ -12,8 +12,8 @@ use Rattle.acpi_numa.specs.declared.srat.kinds.MemoryAffinity.{MemoryAffinity}
 abbrev pub domain_since_2 : ℕ → ℕ → ℕ → ℕ
 domain_since_2 revision lowest whole = if nat_lt revision 2 then lowest else whole
 
--- Processor Local APIC/SAPIC Affinity Structure, at least 16 bytes (section 5.2.16.1): Proximity Domain [7:0] at 2, Proximity Domain
--- [31:8] at 9
+-- Processor Local APIC/SAPIC Affinity Structure, at least 16 bytes (section 5.2.16.1): Proximity Domain [7:0] at 2,
+-- Proximity Domain [31:8] at 9
 abbrev pub local_apic_affinity_at : ℕ → List ℕ → LocalApicAffinity
 local_apic_affinity_at revision b = record {
   domain = domain_since_2 revision (field_of b 2 1) (field_of b 2 1 + 256 * field_of b 9 3);
