@@ -188,10 +188,10 @@ impl Fadt {
             day_alarm: u8_in(bytes, 106), // DAY_ALRM
             month_alarm: u8_in(bytes, 107), // MON_ALRM
             century: u8_in(bytes, 108), // CENTURY
-            iapc_boot_arch: IaPcBootArchFlags::new(u16_in(bytes, places::IAPC_BOOT_ARCH)),
-            flags: FixedFeatureFlags::new(u32_in(bytes, places::FLAGS)),
+            iapc_boot_arch: IaPcBootArchFlags(u16_in(bytes, places::IAPC_BOOT_ARCH)),
+            flags: FixedFeatureFlags(u32_in(bytes, places::FLAGS)),
             reset_value: number_in(bytes, places::RESET_VALUE, 1, WHOLE) as u8,
-            arm_boot_arch: ArmBootArchFlags::new(
+            arm_boot_arch: ArmBootArchFlags(
                 number_in(bytes, places::ARM_BOOT_ARCH, 2, WHOLE) as u16,
             ),
             x_firmware_ctrl: extended_number_in(bytes, reach, places::X_FIRMWARE_CTRL),

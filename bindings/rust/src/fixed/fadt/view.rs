@@ -91,17 +91,17 @@ impl<'h, H: Lender> FadtView<'h, H> {
 
     /// IAPC_BOOT_ARCH: the devices of a PC.
     pub fn iapc_boot_arch(&self) -> IaPcBootArchFlags {
-        IaPcBootArchFlags::new(u16_in(self.bytes(), places::IAPC_BOOT_ARCH))
+        IaPcBootArchFlags(u16_in(self.bytes(), places::IAPC_BOOT_ARCH))
     }
 
     /// ARM_BOOT_ARCH: the way in which the firmware of an Arm machine is called.
     pub fn arm_boot_arch(&self) -> ArmBootArchFlags {
-        ArmBootArchFlags::new(field(self.bytes(), places::ARM_BOOT_ARCH, 2) as u16)
+        ArmBootArchFlags(field(self.bytes(), places::ARM_BOOT_ARCH, 2) as u16)
     }
 
     /// Flags (Fixed Feature Flags): what the fixed hardware does and needs.
     pub fn flags(&self) -> FixedFeatureFlags {
-        FixedFeatureFlags::new(u32_in(self.bytes(), places::FLAGS))
+        FixedFeatureFlags(u32_in(self.bytes(), places::FLAGS))
     }
 
     /// X_FIRMWARE_CTRL or FIRMWARE_CTRL: the physical address of the FACS.
