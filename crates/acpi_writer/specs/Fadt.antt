@@ -77,7 +77,8 @@ address_or_zero None = 0
 
 -- ---- flags, bit 0 first
 
--- Flags (Fixed Feature Flags)
+-- Fixed Feature Flags: what the fixed hardware does and needs (section 5.2.9). The fields `hardware` and
+-- `reset_register` of the contents give HW_REDUCED_ACPI, bit 20, and RESET_REG_SUP, bit 10
 abbrev pub flags_with : FixedFeatures → Bool → Bool → List Bool
 flags_with f reset reduced =
     f.supports_equivalent_to_wbinvd  -- WBINVD
@@ -110,7 +111,7 @@ feature_flags c = flags_with c.features (is_given c.reset_register) (is_reduced 
 abbrev pub feature_number : FadtContents → ℕ
 feature_number c = flag_number (feature_flags c)
 
--- IAPC_BOOT_ARCH
+-- IAPC_BOOT_ARCH, the IA-PC Boot Architecture Flags: the devices of a PC (section 5.2.9.3)
 abbrev pub pc_flags : PcBootFeatures → List Bool
 pc_flags p =
     p.legacy_devices_are_accessible  -- LEGACY_DEVICES
@@ -121,7 +122,8 @@ pc_flags p =
     ∷ p.use_time_and_alarm_namespace_for_rtc  -- CMOS RTC Not Present
     ∷ []
 
--- ARM_BOOT_ARCH
+-- ARM_BOOT_ARCH, the Arm Boot Architecture Flags: the way in which the firmware of an Arm machine is called (section
+-- 5.2.9.4)
 abbrev pub arm_flags : ArmBootFeatures → List Bool
 arm_flags a =
     a.implements_psci  -- PSCI_COMPLIANT

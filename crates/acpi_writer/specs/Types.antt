@@ -244,8 +244,8 @@ pub use Rattle.acpi_writer.specs.declared.fadt.contents.FadtHardware.TheVariants
 }
 pub use Rattle.acpi_writer.specs.declared.fadt.contents.FixedHardware.{FixedHardware}
 pub use Rattle.acpi_writer.specs.declared.fadt.contents.LegacyFields.{LegacyFields}
-pub use Rattle.acpi_writer.specs.declared.fadt.features.ArmBootFeatures.{ArmBootFeatures}
-pub use Rattle.acpi_writer.specs.declared.fadt.features.FixedFeatures.{FixedFeatures}
-pub use Rattle.acpi_writer.specs.declared.fadt.features.PcBootFeatures.{PcBootFeatures}
+pub use Rattle.acpi_writer.specs.declared.made.fadt.ArmBootFeatures.{ArmBootFeatures}
+pub use Rattle.acpi_writer.specs.declared.made.fadt.FixedFeatures.{FixedFeatures}
+pub use Rattle.acpi_writer.specs.declared.made.fadt.PcBootFeatures.{PcBootFeatures}
 pub use Rattle.acpi_writer.specs.declared.spcr.SpcrContents.{SpcrContents}
 pub use Rattle.acpi_writer.specs.declared.spcr.SpcrPciDevice.{SpcrPciDevice}

@@ -4,9 +4,9 @@ ghost use Rattle.acpi_writer.specs.Words.{FADT, list_all, Gives, IsFadt, Keeps, 
 ghost use Rattle.acpi_writer.specs.Fadt as bytes;
 
 mod contents;
-mod features;
 pub(crate) mod parts;
 
+pub use crate::made::fadt::{ArmBootFeatures, FixedFeatures, PcBootFeatures};
 use acpi_base::Signature;
 use acpi_base::address::GenericAddress;
 use acpi_fixed::fadt::PowerProfile;
@@ -18,7 +18,6 @@ use acpi_table_writer::ids::TableIds;
 use acpi_table_writer::spelled::Then;
 use acpi_table_writer::table::{Table, write};
 pub use contents::{FadtContents, FadtHardware, FixedHardware, LegacyFields};
-pub use features::{ArmBootFeatures, FixedFeatures, PcBootFeatures};
 use parts::{Front, Wide, WideRegisters, gpe_register};
 
 /// Whether the DSDT, and the FACS if there is one, are at an address other than 0.

@@ -2,7 +2,6 @@
 //! The Fixed ACPI Description Table (FADT, section 5.2.9), from the hardware and the features that it describes.
 
 mod contents;
-mod features;
 pub(crate) mod parts;
 
 use crate::base::Signature;
@@ -15,8 +14,8 @@ use crate::table_writer::generic::is_register;
 use crate::table_writer::ids::TableIds;
 use crate::table_writer::spelled::Then;
 use crate::table_writer::table::{Table, write};
+pub use crate::write::made::fadt::{ArmBootFeatures, FixedFeatures, PcBootFeatures};
 pub use contents::{FadtContents, FadtHardware, FixedHardware, LegacyFields};
-pub use features::{ArmBootFeatures, FixedFeatures, PcBootFeatures};
 use parts::{Front, Wide, WideRegisters, gpe_register};
 
 /// Whether the DSDT, and the FACS if there is one, are at an address other than 0.

@@ -1,6 +1,6 @@
 //! The contents of a FADT (section 5.2.9).
 
-use super::features::{ArmBootFeatures, FixedFeatures, PcBootFeatures};
+use crate::made::fadt::{ArmBootFeatures, FixedFeatures, PcBootFeatures};
 use acpi_base::address::GenericAddress;
 use acpi_fixed::fadt::{GpeBlock, PowerProfile};
 

@@ -1,9 +1,9 @@
 // Made by scripts/erase of crates/acpi_writer/src/fadt/contents.rt, where it is proved.
 //! The contents of a FADT (section 5.2.9).
 
-use super::features::{ArmBootFeatures, FixedFeatures, PcBootFeatures};
 use crate::base::address::GenericAddress;
 use crate::fixed::fadt::{GpeBlock, PowerProfile};
+use crate::write::made::fadt::{ArmBootFeatures, FixedFeatures, PcBootFeatures};
 
 /// The fixed hardware of a machine: its blocks of registers, and the commands that take them over (section 5.2.9).
 #[derive(Clone, Copy)]
