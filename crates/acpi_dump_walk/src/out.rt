@@ -1,5 +1,6 @@
 //! What is printed, piece by piece, without asking after each piece whether memory sufficed for it.
 
+ghost use Rattle.std.specs.Prelude.{◌||◌, ◌≡◌};
 ghost use Rattle.acpi_dump_walk.specs.Printed.{Prints};
 
 use std::alloc::{AllocError, Global};
@@ -32,9 +33,19 @@ impl Out {
         }
     }
 
-    /// Prints what another output has. If memory was refused to that one, it counts as refused here too.
-    pub fn append(&mut self, other: &Out) {
+    /// If memory was refused to another output, it counts as refused here too.
+    pub fn refuse_as(&mut self, other: &Out)
+        ensures bytes { self.new.bytes ≡ self.old.bytes }
+        ensures refused { self.new.is_refused ≡ self.old.is_refused || other.now.is_refused }
+    {
         self.is_refused |= other.is_refused;
+    }
+
+    /// Prints what another output has. If memory was refused to that one, it counts as refused here too.
+    pub fn append(&mut self, other: &Out)
+        ensures { Prints self.old self.new other.now.bytes.items }
+    {
+        self.refuse_as(other);
         self.bytes(&other.bytes);
     }
 
@@ -74,7 +85,7 @@ impl Out {
     pub fn value<D: Display>(&mut self, value: &D) {
         let mut text = Out::new(self.alloc);
         write!(text, "{value}");
-        self.is_refused |= text.is_refused;
+        self.refuse_as(&text);
         self.escaped(&text.bytes);
     }
 

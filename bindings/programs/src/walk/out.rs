@@ -27,9 +27,14 @@ impl Out {
         }
     }
 
+    /// If memory was refused to another output, it counts as refused here too.
+    pub fn refuse_as(&mut self, other: &Out) {
+        self.is_refused |= other.is_refused;
+    }
+
     /// Prints what another output has. If memory was refused to that one, it counts as refused here too.
     pub fn append(&mut self, other: &Out) {
-        self.is_refused |= other.is_refused;
+        self.refuse_as(other);
         self.bytes(&other.bytes);
     }
 
@@ -65,7 +70,7 @@ impl Out {
     pub fn value<D: Display>(&mut self, value: &D) {
         let mut text = Out::new(self.alloc);
         write!(text, "{value}");
-        self.is_refused |= text.is_refused;
+        self.refuse_as(&text);
         self.escaped(&text.bytes);
     }
 
