@@ -46,7 +46,7 @@ was_not : (p q : Bool) → (p ≡ true → q ≡ true) → q ≡ false → p ≡
 was_not false q more isnt = refl
 was_not true q more isnt = absurd (distinct (sym (more refl) ∙ isnt))
 
-items_of : (refused : Bool) (whole : Bool) (new old all : List ℕ) → refused ≡ whole
+pub items_of : (refused : Bool) (whole : Bool) (new old all : List ℕ) → refused ≡ whole
     → new ≡ (if refused then old else all) → new ≡ (if whole then old else all)
 items_of refused whole new old all is e = subst (λ r. new ≡ (if r then old else all)) is e
 

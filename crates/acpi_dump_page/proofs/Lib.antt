@@ -1,1 +1,2 @@
 mod Escaped
+mod Filled

@@ -1,6 +1,9 @@
 -- What texts of tables, files and options come out as in a page: text, never markup.
 use Rattle.std.specs.Prelude.{◌≡◌, ℕ, ◌==◌, ◌&&◌, Bool, true, false, not, nat_le, List, [], ◌∷◌, ◌++◌, Contains, codes, flat_map, if◌then◌else◌}
+use Rattle.std.specs.Borrow.{Bor}
 use Rattle.acpi_dump_walk.specs.declared.out.Out.{Out}
+use Rattle.acpi_dump_page.specs.declared.html.escape.Piece.{Piece}
+use Rattle.acpi_dump_page.specs.declared.html.escape.Piece.TheVariants.{Markup, Printed}
 
 -- ---- bytes
 
@@ -37,7 +40,33 @@ pub data IsText : List ℕ → Type 0 where
   letter : (c : ℕ) (rest : List ℕ) → is_plain c ≡ true → IsText rest → IsText (c ∷ rest)
   entity : (name rest : List ℕ) → Contains entities name → IsText rest → IsText (name ++ rest)
 
--- ---- a call
+-- ---- a skeleton
+
+-- what comes in place of a `$`: text, unless its piece is HTML already
+pub data IsPiece : Piece → List ℕ → Type 0 where
+  text : (piece : Piece) (bytes : List ℕ) → IsText bytes → IsPiece piece bytes
+  markup : (html : Bor (List ℕ)) → IsPiece (Markup html) html.now
+  printed : (html : Bor Out) → IsPiece (Printed html) html.now.bytes.items
+
+-- the letters of a skeleton in their order, one of the pieces in place of a `$`, and without what memory was refused for
+pub data IsFilled (refused : Bool) (pieces : List Piece) : List ℕ → List ℕ → Type 0 where
+  start : IsFilled refused pieces [] []
+  letter : {skeleton bytes : List ℕ} → IsFilled refused pieces skeleton bytes
+      → (c : ℕ) → IsFilled refused pieces (skeleton ++ c ∷ []) (bytes ++ c ∷ [])
+  place : {skeleton bytes : List ℕ} → IsFilled refused pieces skeleton bytes
+      → (piece : Piece) (added : List ℕ) → Contains pieces piece → IsPiece piece added
+      → IsFilled refused pieces (skeleton ++ codes "$") (bytes ++ added)
+  lost : {skeleton bytes : List ℕ} → IsFilled refused pieces skeleton bytes
+      → (c : ℕ) → refused ≡ true → IsFilled refused pieces (skeleton ++ c ∷ []) bytes
+
+-- ---- calls
+
+-- after it the text has bytes more, of which this holds
+pub record Adds (old new : Out) (Is : List ℕ → Type 0) : Type 0 where
+  pub bytes : List ℕ
+  pub are : Is bytes
+  pub items : new.bytes.items ≡ old.bytes.items ++ bytes
+  pub refused : old.is_refused ≡ true → new.is_refused ≡ true
 
 -- after it the text has what bytes come out as: of all of them, or of the first ones if memory is refused
 pub record Escapes (old new : Out) (bytes : List ℕ) : Type 0 where

@@ -1,5 +1,5 @@
 //! Texts of tables, files and options, which stay texts in a page.
-ghost use Rattle.acpi_dump_page.specs.Html.{Escapes, html_of_byte};
+ghost use Rattle.acpi_dump_page.specs.Html.{Adds, Escapes, IsFilled, IsPiece, html_of_byte};
 ghost use Rattle.acpi_dump_walk.specs.Printed.{Prints};
 
 use super::ids::Id;
@@ -34,70 +34,87 @@ pub(super) enum Piece<'a> {
     Hex(u64),
     Digits(u64),
     Offset(u64),
-    /// What is HTML already.
+    /// HTML of this program.
     Markup(&'a str),
     Printed(&'a Out),
 }
 
-/// Prints the skeleton of a part of a page, each `$` in it as the next of the pieces.
-pub(super) fn print_html(skeleton: &str, pieces: &[Piece<'_>], out: &mut Out) {
-    for (place, markup) in skeleton.split('$').enumerate() {
-        if place > 0
-            && let Some(piece) = pieces.get(place - 1)
-        {
-            print_piece(*piece, out);
+/// Prints the skeleton of a part of a page, each `$` in it as the next of the pieces, or as it is if none is left.
+#[tactic(auto, using(crate::proofs::Filled::filling))]
+pub(super) fn print_html(skeleton: &'static str, pieces: &[Piece<'_>], out: &mut Out)
+    ensures { Adds out.old out.new (IsFilled out.new.is_refused pieces.now skeleton.now) }
+{
+    let mut used = 0;
+    for letter in skeleton.as_bytes() {
+        match pieces.get(used) {
+            Some(piece) if *letter == b'$' => {
+                print_piece(*piece, out);
+                used += 1;
+            }
+            _ => out.bytes(&[*letter]),
         }
-        out.text(markup);
     }
 }
 
-/// Prints what is put in place of a `$`.
-fn print_piece(piece: Piece<'_>, out: &mut Out) {
+/// Prints what is put in place of a `$`: all of it escaped, unless it is HTML already.
+#[tactic(auto, using(crate::proofs::Filled::adding))]
+fn print_piece(piece: Piece<'_>, out: &mut Out)
+    ensures { Adds out.old out.new (IsPiece piece.entry) }
+{
+    let mut text = Out::new(out.allocator());
     match piece {
-        Piece::Text(text) => print_escaped(text.as_bytes(), out),
-        Piece::Bytes(bytes) => print_escaped(bytes, out),
-        Piece::Value(path) if path.starts_with('\\') => print_escaped(path.as_bytes(), out),
-        Piece::Value(digits) => {
-            let bytes = digits.as_bytes();
-            print_escaped(bytes.get(..DIGITS).unwrap_or(bytes), out);
-            out.text(if digits.len() > DIGITS { ".." } else { "" })
-        }
-        Piece::Words(text, most) => {
-            let front = first_words(text, most);
-            print_escaped(front.as_bytes(), out);
-            out.text(if front.len() < text.len() { " .." } else { "" })
-        }
+        Piece::Markup(html) => return out.text(html),
+        Piece::Printed(html) => return out.append(html),
+        Piece::Text(letters) => text.text(letters),
+        Piece::Bytes(bytes) => text.bytes(bytes),
+        Piece::Value(value) => print_first_digits(value, &mut text),
+        Piece::Words(words, most) => print_words(words, most, &mut text),
         Piece::Name(item) => {
-            print_escaped(item.name.as_bytes(), out);
+            text.text(item.name);
             if let Some(number) = item.number {
-                out.words(" %", &[number])
+                text.words(" %", &[number])
             }
         }
-        Piece::Names(names) => print_names(names, out),
-        Piece::Letters(signature) => print_escaped(&signature.to_bytes(), out),
-        Piece::Status(status) => {
-            let mut text = Out::new(out.allocator());
-            write!(text, "{status}");
-            print_escaped(text.since(0), out)
-        }
+        Piece::Names(names) => print_names(names, &mut text),
+        Piece::Letters(signature) => text.bytes(&signature.to_bytes()),
+        Piece::Status(status) => write!(text, "{status}"),
         Piece::Id(id, offset) => {
-            id.print(out);
+            id.print(&mut text);
             if let Some(offset) = offset {
-                out.words("-#", &[offset])
+                text.words("-#", &[offset])
             }
         }
-        Piece::Decimal(number) => out.words("%", &[number]),
-        Piece::Hex(number) => out.words("#", &[number]),
-        Piece::Digits(number) => write!(out, "{number:x}"),
-        Piece::Offset(offset) => write!(out, "{offset:04x}"),
-        Piece::Markup(text) => out.text(text),
-        Piece::Printed(text) => out.append(text),
+        Piece::Decimal(number) => write!(text, "{number}"),
+        Piece::Hex(number) => write!(text, "0x{number:x}"),
+        Piece::Digits(number) => write!(text, "{number:x}"),
+        Piece::Offset(offset) => write!(text, "{offset:04x}"),
     }
+    out.refuse_as(&text);
+    print_escaped(text.since(0), out)
 }
 
 /// A text if something holds, or no letters.
 pub(super) fn word_if(holds: bool, text: &'static str) -> Piece<'static> {
     Piece::Text(if holds { text } else { "" })
+}
+
+/// Prints a path, or the first digits of a value.
+fn print_first_digits(value: &str, out: &mut Out) {
+    let digits = value.as_bytes();
+    match digits.get(..DIGITS) {
+        Some(front) if digits.len() > DIGITS && !value.starts_with('\\') => {
+            out.bytes(front);
+            out.text("..");
+        }
+        _ => out.text(value),
+    }
+}
+
+/// Prints the first words of a text, of at most so many letters together.
+fn print_words(text: &str, most: usize, out: &mut Out) {
+    let front = first_words(text, most);
+    out.text(front);
+    out.text(if front.len() < text.len() { " .." } else { "" })
 }
 
 /// The first words of a text, of at most so many letters together.
@@ -147,6 +164,6 @@ fn print_names(names: &[&str], out: &mut Out) {
         if number > 0 {
             out.text(" ");
         }
-        print_escaped(name.as_bytes(), out);
+        out.text(name);
     }
 }

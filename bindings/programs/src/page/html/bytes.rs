@@ -28,7 +28,7 @@ fn run_at(sheet: &Sheet<'_>, offset: u64, field: &mut usize) -> Run {
 }
 
 /// Prints what ends a run, and then what begins one, where they aren't the same, and the blanks between them.
-fn print_border(before: Run, run: Run, gap: &str, out: &mut Out) {
+fn print_border(before: Run, run: Run, gap: &'static str, out: &mut Out) {
     let end = if before.is_some() { "</i>" } else { "" };
     match run {
         _ if before == run => out.text(gap),
