@@ -49,16 +49,16 @@ $(OUT)/lib%.a: dist/zacpi.c $(wildcard include/*.h)
 	@rm -f $@
 	$(AR) rcs $@ $(OUT)/$*.o
 
-# The package of the programs (bindings/programs).
+# The programs: acpi_dump (tools/acpi_dump), and those of bindings/programs.
 acpi_dump: $(OUT)/acpi_dump
 CARGO ?= cargo
-RUST = $(shell sed -n 's/^rust-version = "\(.*\)"/\1/p' bindings/programs/Cargo.toml)
-$(OUT)/acpi_dump: $(wildcard bindings/*/Cargo.toml) $(shell find bindings/rust/src bindings/programs/src -name '*.rs')
+RUST = $(shell sed -n 's/^rust-version = "\(.*\)"/\1/p' tools/acpi_dump/Cargo.toml)
+$(OUT)/acpi_dump: $(wildcard Cargo.* */*/Cargo.toml) $(shell find bindings/*/src tools/*/src -name '*.rs')
 	@$(CARGO) --version 2>/dev/null | awk -v least=$(RUST) '{ split($$2, has, "."); split(least, needs, "."); \
 	    new = has[1] > needs[1] || has[1] == needs[1] && has[2] + 0 >= needs[2] + 0 } END { exit !new }' || \
 	    { echo "the programs need cargo $(RUST) or later, which isn't there: https://rustup.rs has it" >&2; exit 1; }
-	$(CARGO) build --release --manifest-path bindings/programs/Cargo.toml --target-dir $(OUT)/cargo \
-	    $(if $(TARGET),--target $(TARGET) --no-default-features --features fleet)
+	$(CARGO) build --release -p acpi_dump -p acpi_programs --target-dir $(OUT)/cargo \
+	    $(if $(TARGET),--target $(TARGET) --no-default-features --features acpi_dump/fleet)
 	cp $(NAMES:%=$(OUT)/cargo/$(if $(TARGET),$(TARGET)/)release/%) $(OUT)
 
 stick:

@@ -1,30 +1,22 @@
 # SPDX-License-Identifier: MIT
-"""The package of the programs, bindings/programs: the crates of acpi_dump, acpi_view and acpi_pack that the library's
-package hasn't, each as a module, without what Rattle has beyond Rust. And for `scripts/erase --workspace` a Cargo
-workspace of crates over copies of both packages, whose text is erased the same way: to run acpi_rows by rustc."""
+"""The package of the programs, bindings/programs: the crates of acpi_view, of acpi_pack and of what acpi_dump reads by
+that the library's package hasn't, each as a module, without what Rattle has beyond Rust. And for
+`scripts/erase --workspace` a Cargo workspace of crates over copies of both packages, whose text is erased the same way:
+to run acpi_rows by rustc."""
 import re
 import shutil
 
 # The module of the package that each crate is, and its programs, of one file each.
 MODULES = {'acpi_cli': 'cli', 'acpi_image_reader': 'image_reader', 'acpi_image': 'image', 'acpi_view_lib': 'view',
-           'acpi_pack_lib': 'pack', 'acpi_dump_walk': 'walk', 'acpi_dump_code': 'code', 'acpi_dump_input': 'input',
-           'acpi_dump_check': 'check', 'acpi_dump_compare': 'compare', 'acpi_dump_page': 'page',
-           'acpi_dump_summary': 'summary', 'acpi_dump_lib': 'dump'}
-PROGRAMS = ['acpi_dump', 'acpi_view', 'acpi_pack']
-# What the package's root looks at, in the crate whose own it is.
-# Where acpi_dump looks whether a fleet is requested, which is plain Rust (src/fleet).
-FLEET = ('    let (mut sources, mut storage)', '    if let Some(status) = acpi_dump::fleet_status(&arguments) {\n        return Ok(status);\n    }\n'
-         '    let (mut sources, mut storage)')
-OPENED = ('dump/mod.rs', 'mod options;', 'pub(crate) mod options;')
-# Where the package has what is of Rattle's libraries.
-RATTLE = {'clap': 'arguments', 'json': 'json'}
+           'acpi_pack_lib': 'pack', 'acpi_dump_walk': 'walk', 'acpi_dump_code': 'code', 'acpi_dump_input': 'input'}
+PROGRAMS = ['acpi_view', 'acpi_pack']
+NAME = 'acpi_programs'
+# Where the package has what is of Rattle's std.
 STD = ['alloc', 'collections', 'vec', 'string', 'boxed', 'num', 'io', 'fs', 'env', 'process', 'os', 'rt', 'time']
 # Functions that the library's package has without the allocator that they are passed in Rattle.
 GLOBAL = (r'(?P<call>\.platform_info)\([^()]*(?:\([^()]*\))?\)',
           r'\b(?P<path>(?:ManagedSlice|PciConfigRegions|PlatformInfo|GicModel|MemoryAffinities)::new)\('
           r'(?P<first>[^(),]*(?:\([^()]*\))?), ')
-# An error that stable Rust has no name for: it is one of the others.
-UNSTABLE = r' *ErrorKind::FilesystemLoop => [^\n]*,\n'
 # Most of the programs' time is in these: a search that is made for short pieces is in the place of Rust's. Of a text or
 # several characters Rust's stays.
 PIECES = {r"\.split\((?='(?:\\?.|\\x..)'\))": '.pieces(', r'\.split_once\((?!")': '.two_pieces('}
@@ -52,7 +44,7 @@ publish = false
 
 
 def without_global(text):
-    text = re.sub(GLOBAL[0], r'\g<call>()', re.sub(UNSTABLE, '', text))
+    text = re.sub(GLOBAL[0], r'\g<call>()', text)
     return re.sub(GLOBAL[1], r'\g<path>(', text)
 
 
@@ -61,7 +53,7 @@ def places_of(erase, package):
     places = {f'std::{module}': f'{package}::rattle::{module}' for module in STD}
     places |= {crate: 'zacpi' if module in ('acpi', 'fixed') else f'zacpi::{module}'
                for crate, module in erase.MODULES.items()}
-    places |= {crate: f'{package}::{module}' for crate, module in {**MODULES, **RATTLE}.items()}
+    places |= {crate: f'{package}::{module}' for crate, module in MODULES.items()}
     return {**places, 'bitflags': f'{package}::rattle::bitflags'}
 
 
@@ -85,13 +77,9 @@ def programs(erase):
             is_root = path.name == 'lib.rt'
             to = erase.Path(module, 'mod.rs' if is_root else path.with_suffix('.rs'))
             text = text_of(erase, crate, path, module, 'crate', erase.HEAD if is_root else '')
-            if str(to) == OPENED[0]:
-                text = text.replace(*OPENED[1:])
             made[to] = erase.MADE.format(f'{crate}/src/{path}') + text
     for name in PROGRAMS:
-        text = text_of(erase, name, 'main.rt', '', 'acpi_dump', '#![forbid(unsafe_code)]\n#![allow(unused_imports)]\n')
-        if name == 'acpi_dump':
-            text = text.replace(*FLEET)
+        text = text_of(erase, name, 'main.rt', '', NAME, '#![forbid(unsafe_code)]\n#![allow(unused_imports)]\n')
         made[erase.Path('bin', f'{name}.rs')] = erase.MADE.format(f'{name}/src/main.rt') + text
     return made
 
@@ -99,11 +87,9 @@ def programs(erase):
 def copy_packages(erase, folder):
     """Copies the packages, the library's with the fields of structs in the order of the source, since some rows count a
     heap's bytes."""
-    for name, left in (('rust', ['tests', 'examples']), ('programs', [])):
+    for name in ('rust', 'programs'):
         shutil.copytree(erase.ROOT / 'bindings' / name, folder / name,
-                        ignore=shutil.ignore_patterns('target', 'Cargo.lock', *left))
-        toml = folder / name / 'Cargo.toml'
-        toml.write_text(toml.read_text().replace('[workspace]\n', ''))
+                        ignore=shutil.ignore_patterns('target', 'tests', 'examples'))
     for path in (folder / 'rust/src').rglob('*.rs'):
         if path.relative_to(folder / 'rust/src').parts[0] in erase.MODULES.values():
             path.write_text(re.sub(r'(?m)^((?:pub(?:\([a-z]+\))? )?struct )', r'#[repr(C)]\n\1', path.read_text()))
@@ -115,7 +101,7 @@ def workspace(erase, folder, names):
     heap = 'linked_list_allocator'
     shutil.copytree(erase.ROOT / 'tests/rustc' / heap, folder / heap)
     for name in names:
-        one_crate(erase, folder, name, [('zacpi', 'rust'), ('acpi_dump', 'programs'), (heap, heap)])
+        one_crate(erase, folder, name, [('zacpi', 'rust'), (NAME, 'programs'), (heap, heap)])
     members = ', '.join(f'"{name}"' for name in [*names, 'programs'])
     (folder / 'Cargo.toml').write_text(WORKSPACE.format(members=members))
 
@@ -125,6 +111,6 @@ def one_crate(erase, folder, name, needs):
         head = '#![forbid(unsafe_code)]\n#![allow(unused)]\n' if str(path) in ('lib.rt', 'main.rt') else ''
         to = folder / name / 'src' / path.with_suffix('.rs')
         to.parent.mkdir(parents=True, exist_ok=True)
-        to.write_text(text_of(erase, name, path, '', 'acpi_dump', head))
+        to.write_text(text_of(erase, name, path, '', NAME, head))
     lines = '\n'.join(f'{need} = {{ path = "../{place}" }}' for need, place in needs)
     (folder / name / 'Cargo.toml').write_text(MANIFEST.format(name=name, needs=lines))

@@ -97,8 +97,10 @@ def manuals(site):
 
 def of_rust(site, target):
     """Makes the pages of the Rust package by rustdoc, each with a way back."""
+    # By itself, out of the workspace, it needs no other crates.
+    shutil.copytree(ROOT / 'bindings/rust', target / 'package')
     subprocess.run([os.environ.get('CARGO', 'cargo'), 'doc', '--quiet', '--no-deps', '--offline', '--manifest-path',
-                    ROOT / 'bindings/rust/Cargo.toml', '--target-dir', target], check=True)
+                    target / 'package/Cargo.toml', '--target-dir', target], check=True)
     shutil.copytree(target / 'doc', site.folder / 'rust', ignore=shutil.ignore_patterns('.lock'))
     for path in (site.folder / 'rust').rglob('*.html'):
         up = '../' * len(path.relative_to(site.folder).parent.parts)

@@ -13,7 +13,7 @@ ROOT = header_items.ROOT
 DOCUMENTS = {'README.md': 'index.html', 'CONTRIBUTING.md': 'contributing.html', 'SECURITY.md': 'security.html',
              'CHANGELOG.md': 'changelog.html', 'examples/README.md': 'examples.html',
              'bindings/rust/README.md': 'rust-package.html', 'bindings/programs/README.md': 'programs-package.html',
-             'crates/acpi_dump/data/README.md': 'sample-files.html'}
+             'tools/acpi_dump/data/README.md': 'sample-files.html'}
 DOCUMENTS |= {f'docs/{path.name}': f'{path.stem.lower()}.html' for path in sorted((ROOT / 'docs').glob('*.md'))}
 # The doors, and what is behind each: its pages.
 DOORS = [

@@ -1,6 +1,6 @@
 # SPDX-License-Identifier: MIT
 """Damaged inputs of each kind: whether acpi_dump ends over them with a status of docs/acpi_dump.1 and no fault, and
-makes no file outside the folder of --extract but that of --html. scripts/check/builds has them too."""
+makes no file outside the folder of --extract but that of --html."""
 import concurrent.futures
 import os
 import random

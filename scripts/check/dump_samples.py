@@ -3,7 +3,7 @@
 from lib import checks
 from lib.checks import TOP
 
-DATA = f"{TOP}/crates/acpi_dump/data"
+DATA = f"{TOP}/tools/acpi_dump/data"
 SECONDS = 60
 # The starts of the images: of all that is checked, and of those that only summaries and reports are made of.
 STARTS = {

@@ -11,7 +11,7 @@ from pathlib import Path
 from lib import checks
 from lib.checks import TOP, check
 
-DATA = f"{TOP}/crates/acpi_dump/data"
+DATA = f"{TOP}/tools/acpi_dump/data"
 SAMPLES = {
     "q35.image": [],
     "virt.image": ["rsdp", "0x40430018"],

@@ -24,11 +24,11 @@ def ended():
 
 
 def builds_of(program):
-    """The builds of a program, at least one: what its variable names, or those that scripts/program leaves."""
+    """The builds of a program, at least one: what its variable names, or those that scripts/built leaves."""
     given = os.environ.get(program.upper())
     if given:
         return [os.path.abspath(given)]
-    left = subprocess.run([f"{TOP}/scripts/program", program], stdout=subprocess.PIPE, text=True)
+    left = subprocess.run([f"{TOP}/scripts/built", program], stdout=subprocess.PIPE, text=True)
     if left.returncode:
         sys.exit(f"{program} isn't built\n0 passed, 1 failed")
     return left.stdout.splitlines()

@@ -37,17 +37,16 @@ has_rust() {
     [ "$oldest" = "$wanted" ] || { echo "skipped: rustc $oldest is older than $wanted"; return 1; }
 }
 
-# Has cargo take the crates of others from Debian's packages wherever it is run below $made, if they are there: those of
-# the programs' Cargo.lock, with its sums, which Debian's packages haven't all. Another Debian has other versions, of
-# which the programs' copies below $made are then built.
+# Has cargo take the crates of others from Debian's packages, if they are there: those of Cargo.lock, with its sums,
+# which Debian's packages haven't all. Another Debian has other versions, of which copies below $made are then built.
 crates_of_debian() {
     for crate in clap clap_complete flate2 serde_json strsim xz2; do
         ls -d /usr/share/cargo/registry/$crate-[0-9]* >/dev/null 2>&1 || return 1
     done
     registry=$made/registry
-    mkdir -p "$made/.cargo" && locked_crates "$registry" ||
-        { registry=/usr/share/cargo/registry && rm -f "$made"/*/bindings/programs/Cargo.lock; }
-    cat >"$made/.cargo/config.toml" <<END
+    locked_crates "$registry" || { registry=/usr/share/cargo/registry && rm -f "$made"/*/Cargo.lock; }
+    export CARGO_HOME="$made/cargo-home"
+    mkdir -p "$CARGO_HOME" && cat >"$CARGO_HOME/config.toml" <<END
 [source.crates-io]
 replace-with = "debian"
 [source.debian]
@@ -58,7 +57,7 @@ END
 }
 locked_crates() { # FOLDER
     awk -F '"' '/^name/ { crate = $2 } /^version/ { crate = crate "-" $2 } /^checksum/ { print crate, $2 }' \
-        bindings/programs/Cargo.lock >"$made/locked"
+        Cargo.lock >"$made/locked" || return 1
     while read -r crate sum; do
         [ -d "/usr/share/cargo/registry/$crate" ] && mkdir -p "$1/$crate" &&
             ln -sf "/usr/share/cargo/registry/$crate"/* "$1/$crate" || return 1
@@ -83,7 +82,7 @@ views() {
     done <"$made/starts"
     every_kind
 }
-image_file() { find crates/*/data examples/c/data -name "$1" | sort | head -n 1; }
+image_file() { find crates/*/data tools/*/data examples/c/data -name "$1" | sort | head -n 1; }
 
 # Runs a caller from a start, and compares status, lines and errors with acpi_view's.
 same_start() { # IMAGE START COMMAND...
@@ -160,7 +159,7 @@ same_lines() { # NAME COMMAND...
 }
 # Each sample image has starts that are run, and one that is refused; copies of one name are the same.
 all_started() {
-    find crates/*/data examples/c/data -name '*.image' | sort >"$made/images"
+    find crates/*/data tools/*/data examples/c/data -name '*.image' | sort >"$made/images"
     while read -r file; do
         grep -q "^refuses $(basename "$file") " scripts/lib/sample_starts.txt || { echo "$file has no start that is refused"; return 1; }
         cmp "$file" "$(grep "/$(basename "$file")\$" "$made/images" | head -n 1)" || return 1

@@ -1,9 +1,9 @@
 //! Images of memory that are written, and read again, also in too little memory. `acpi_rows` has the bytes of more, and
 //! why others are not written (`data/images.rows`), and what is read in them (`data/runs.rows` and `data/lent.rows`).
-use acpi_dump::image::write::write_in;
-use acpi_dump::image::{ImageError, MemoryImage, PlacedTable, WriteError, write_image};
-use acpi_dump::image_reader::reader::records_of;
-use acpi_dump::rattle::alloc::{AllocError, Allocator, Global};
+use acpi_programs::image::write::write_in;
+use acpi_programs::image::{ImageError, MemoryImage, PlacedTable, WriteError, write_image};
+use acpi_programs::image_reader::reader::records_of;
+use acpi_programs::rattle::alloc::{AllocError, Allocator, Global};
 use std::cell::Cell;
 use zacpi::bgrt::Bgrt;
 use zacpi::sdt::Signature;

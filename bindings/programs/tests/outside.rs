@@ -1,14 +1,14 @@
 //! What can't be seen of a program from outside: arguments that can't be had, writes that fail, names of files that no
 //! shell passes, and memory that runs out.
-use acpi_dump::cli::args_or_none;
-use acpi_dump::cli::save::{SaveError, save};
-use acpi_dump::cli::storage::HostStorage;
-use acpi_dump::pack::Refusal;
-use acpi_dump::pack::arguments::parse_command;
-use acpi_dump::pack::outcome::Outcome;
-use acpi_dump::pack::program::carry_out;
-use acpi_dump::rattle::alloc::Global;
-use acpi_dump::rattle::{HostRuntime, String, Vec};
+use acpi_programs::cli::args_or_none;
+use acpi_programs::cli::save::{SaveError, save};
+use acpi_programs::cli::storage::HostStorage;
+use acpi_programs::pack::Refusal;
+use acpi_programs::pack::arguments::parse_command;
+use acpi_programs::pack::outcome::Outcome;
+use acpi_programs::pack::program::carry_out;
+use acpi_programs::rattle::alloc::Global;
+use acpi_programs::rattle::{HostRuntime, String, Vec};
 use std::io::{self, ErrorKind, Write};
 use std::path::Path;
 

@@ -30,7 +30,7 @@ pub fn eight(bytes: &[u8]) -> u64 {
 }
 
 /// The regions of an image, in ascending order and without those of no byte, or what acpi_view reports of an image that
-/// it rejects. crates/acpi_dump/data/README.md has the layout of images.
+/// it rejects. tools/acpi_dump/data/README.md has the layout of images.
 pub fn regions(mut image: &[u8]) -> Result<Vec<Region<'_>>, &'static str> {
     let mut found: Vec<Region<'_>> = Vec::new();
     let end = |r: &Region<'_>| r.address + r.bytes.len() as u64;

@@ -1,4 +1,4 @@
-//! Sample images of the repository, whose contents crates/acpi_dump/data/README.md describes.
+//! Sample images of the repository, whose contents tools/acpi_dump/data/README.md describes.
 #![cfg(feature = "alloc")]
 use std::fs;
 use std::path::Path;
@@ -57,7 +57,7 @@ fn ten_tables() {
 /// QEMU's q35: its DSDT has Name (_S3, Package {1, 1, 0, 0}) and Name (_S5, Package {0, 0, 0, 0}).
 #[test]
 fn the_machine_of_qemu() {
-    let Some(image) = sample("crates/acpi_dump/data/q35.image") else { return };
+    let Some(image) = sample("tools/acpi_dump/data/q35.image") else { return };
     let regions = regions(&image);
     let memory = MappedRegions::new(&regions).unwrap();
     let tables = AcpiTables::from_rsdp(&memory, 0xf_59e0).unwrap();
@@ -78,7 +78,7 @@ fn the_machine_of_qemu() {
 /// The table at 0x4180 has a signature that isn't UTF-8 or isn't printable; the root table lists nine tables.
 #[test]
 fn the_machine() {
-    let Some(image) = sample("crates/acpi_dump/data/machine.image") else { return };
+    let Some(image) = sample("tools/acpi_dump/data/machine.image") else { return };
     let regions = regions(&image);
     let memory = MappedRegions::new(&regions).unwrap();
     let tables = AcpiTables::from_rsdp(&memory, 0x500).unwrap();

@@ -9,13 +9,13 @@
 #![forbid(unsafe_code)]
 #![allow(unused_imports)]
 
-use acpi_dump::cli::storage::HostStorage;
-use acpi_dump::cli::{args, borrowed};
-use acpi_dump::pack::files::HostFiles;
-use acpi_dump::pack::program::pack;
-use acpi_dump::rattle::HostRuntime;
-use acpi_dump::rattle::io;
-use acpi_dump::rattle::process::ExitCode;
+use acpi_programs::cli::storage::HostStorage;
+use acpi_programs::cli::{args, borrowed};
+use acpi_programs::pack::files::HostFiles;
+use acpi_programs::pack::program::pack;
+use acpi_programs::rattle::HostRuntime;
+use acpi_programs::rattle::io;
+use acpi_programs::rattle::process::ExitCode;
 
 fn main() -> ExitCode {
     let rt = HostRuntime::new();

@@ -9,14 +9,14 @@
 #![forbid(unsafe_code)]
 #![allow(unused_imports)]
 
-use acpi_dump::cli::{args, borrowed};
-use acpi_dump::rattle::HostRuntime;
-use acpi_dump::rattle::fs;
-use acpi_dump::rattle::io;
-use acpi_dump::rattle::io::Write;
-use acpi_dump::rattle::process::ExitCode;
-use acpi_dump::view::arguments::file_named;
-use acpi_dump::view::run::{USAGE, run};
+use acpi_programs::cli::{args, borrowed};
+use acpi_programs::rattle::HostRuntime;
+use acpi_programs::rattle::fs;
+use acpi_programs::rattle::io;
+use acpi_programs::rattle::io::Write;
+use acpi_programs::rattle::process::ExitCode;
+use acpi_programs::view::arguments::file_named;
+use acpi_programs::view::run::{USAGE, run};
 
 /// The line after `USAGE`: how else the program is called.
 const OTHERS: &str = "       acpi_view --help | --version\n";

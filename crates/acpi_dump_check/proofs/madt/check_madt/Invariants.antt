@@ -1,6 +1,0 @@
-use Rattle.std.proofs.Common.{length}
-use Rattle.acpi_dump_check.proofs.madt.check_madt.Given as goal
-
--- each entry leaves fewer bytes
-abbrev pub decreases-loop-entry : goal.decreases-loop-entry
-decreases-loop-entry l = length l.rest

@@ -1,2 +1,0 @@
-mod Escaped
-mod Filled

@@ -1,0 +1,240 @@
+//! The SRAT and the SLIT (ACPI 6.5, sections 5.2.16 and 5.2.17).
+
+use crate::check::findings::Findings;
+use crate::check::machine::Machine;
+use crate::check::numbers::{Kept, Numbers};
+use crate::check::pieces::Pieces;
+use crate::check::spans::{Span, overlaps};
+use acpi_programs::rattle::Vec;
+use acpi_programs::walk::share::share_of;
+use zacpi::base::bytes::skip;
+use zacpi::base::entries::split_front;
+use zacpi::madt::MADT_GRAMMAR;
+use zacpi::numa::Distances;
+use zacpi::numa::srat::{SRAT_GRAMMAR, SratEntry};
+use zacpi::sdt::{Signature, field};
+
+pub(crate) const RULES: &str = "
+srat-no-domain warning ACPI 6.5, section 5.2.16 | An enabled processor of the MADT has no domain
+srat-unknown-processor warning ACPI 6.5, section 5.2.16 | An enabled entry is of a processor that the MADT lacks
+srat-overlap error ACPI 6.5, section 5.2.16.2 | Ranges of memory of two domains overlap \
+    | # is in domain %, and in domain % by the range at #
+srat-empty warning ACPI 6.5, section 5.2.16.2 | A range of memory has no bytes | is %
+srat-past-end error ACPI 6.5, section 5.2.16.2 | A range of memory ends above 2^64 | # bytes from # on end above 2^64
+srat-repeated warning ACPI 6.5, section 5.2.16.2 | Ranges of memory of one domain overlap | # is in the range at # too
+srat-reserved-type note ACPI 6.5, section 5.2.16 | An entry has a reserved type | # is reserved
+slit-no-srat warning ACPI 6.5, section 5.2.17 | There are localities, but no SRAT says what is in them \
+    | the machine has no SRAT
+slit-diagonal error ACPI 6.5, section 5.2.17 | The distance of a locality from itself isn't 10 \
+    | locality % is at % from itself
+slit-reserved-distance error ACPI 6.5, section 5.2.17 | A distance is one of 0 to 9, which are reserved \
+    | locality % is at % from locality %
+slit-asymmetric note ACPI 6.5, section 5.2.17 | Two localities are at different distances from each other \
+    | % from % to %, % from % to %
+slit-too-few warning ACPI 6.5, section 5.2.17 | A domain of the SRAT isn't one of the localities \
+    | domain %, and the SLIT has % localities
+";
+
+// The lists of numbers that are judged together: of processors those by the ids of their local APICs, and the list
+// after each those by their UIDs.
+const PLACED: u64 = 0; // by the SRAT
+
+const LISTED: u64 = 2; // by the MADT
+
+const ENABLED: u64 = 4; // those of them that are enabled
+
+const DOMAINS: u64 = 6; // of the SRAT
+
+/// The enabled processors of a SRAT.
+const PLACES: [Kept; 3] = [(0, PLACED, (3, 1), 4), (2, PLACED, (8, 4), 12), (3, PLACED + 1, (6, 4), 10)];
+
+/// The processors of a MADT.
+const PROCESSORS: [Kept; 6] = [
+    (0, LISTED, (3, 1), 0),
+    (0, ENABLED, (3, 1), 4),
+    (9, LISTED, (4, 4), 0),
+    (9, ENABLED, (4, 4), 8),
+    (0xb, LISTED + 1, (8, 4), 0),
+    (0xb, ENABLED + 1, (8, 4), 12),
+];
+
+/// Judges the first SRAT beside the first MADT and the first SLIT.
+pub(crate) fn check_affinities(machine: &Machine<'_>, findings: &mut Findings) {
+    let Some((index, srat)) = machine.first(Signature::SRAT) else {
+        if let Some((index, _)) = machine.first(Signature::SLIT)
+            && machine.is_whole()
+        {
+            findings.table = index;
+            findings.add("slit-no-srat", 0, &[]);
+        }
+        return;
+    };
+    findings.table = index;
+    let mut numbers = Numbers::new(machine.alloc);
+    add_entries(srat, &mut numbers);
+    let madt = machine.first(Signature::MADT);
+    let has_processors = match madt {
+        Some((_, madt)) => add_processors(madt, &mut numbers),
+        None => false,
+    };
+    findings.need(numbers.sort());
+    if let Some((_, slit)) = machine.first(Signature::SLIT) {
+        check_localities(Distances::over(slit).localities(), &numbers, findings);
+    }
+    if let Some((madt, _)) = madt
+        && has_processors
+    {
+        check_processors(index, madt, &numbers, findings);
+    }
+}
+
+/// Adds the processors of a MADT. Returns whether these can be compared: local SAPICs the SRAT names by two numbers.
+fn add_processors(madt: &[u8], numbers: &mut Numbers) -> bool {
+    let mut has_sapic = false;
+    for (offset, entry) in Pieces::of(madt, 44, (1, 1)) {
+        let kind = field(entry, 0, 1);
+        has_sapic |= kind == 7;
+        let least = MADT_GRAMMAR.layout.least_lengths.get(kind as usize);
+        if entry.len() >= least.copied().unwrap_or(0) {
+            numbers.add(&PROCESSORS, offset, entry);
+        }
+    }
+    !has_sapic
+}
+
+/// Judges the enabled ranges of memory of a SRAT.
+pub(crate) fn check_ranges(srat: &[u8], findings: &mut Findings) {
+    let mut ranges = Vec::new(findings.alloc);
+    for (offset, entry) in Pieces::of(srat, 48, (1, 1)) {
+        let kind = field(entry, 0, 1);
+        // Type 7 is a RISC-V hart's.
+        if kind > 7 {
+            findings.add("srat-reserved-type", offset, &[kind]);
+        }
+        if kind == 1
+            && let Some(share) = share_of(srat, entry)
+            && let Some(range) = range_of(offset, entry, share.domain as u64, findings)
+        {
+            findings.need(ranges.push(range).is_ok());
+        }
+    }
+    for (before, range) in overlaps(&mut ranges, findings) {
+        let (first, place) = (range.first, before.offset as u64);
+        if range.owner == before.owner {
+            findings.add("srat-repeated", range.offset, &[first, place]);
+        } else {
+            let numbers = &[first, range.owner, before.owner, place];
+            findings.add("srat-overlap", range.offset, numbers);
+        }
+    }
+}
+
+/// The range of memory of a domain that the entry at an offset has, if it has bytes. It finds one that has none, or
+/// ends above 2^64.
+fn range_of(offset: usize, entry: &[u8], domain: u64, findings: &mut Findings) -> Option<Span> {
+    let (base, length) = (field(entry, 8, 8), field(entry, 16, 8)); // Base Address, Length
+    let at = offset.saturating_add(16);
+    let Some(more) = length.checked_sub(1) else {
+        findings.add("srat-empty", at, &[length]);
+        return None;
+    };
+    if base.checked_add(more).is_none() {
+        findings.add("srat-past-end", at, &[length, base]);
+    }
+    Some(Span::of(base, more, offset.saturating_add(8), domain))
+}
+
+/// Adds the domains and the processors that the enabled entries of a SRAT name.
+fn add_entries(srat: &[u8], numbers: &mut Numbers) {
+    let revision = field(srat, 8, 1) as u8; // Revision
+    let mut rest = skip(srat, 48);
+    while let Some((entry, others)) = split_front(&SRAT_GRAMMAR, rest) {
+        let offset = srat.len().saturating_sub(rest.len());
+        numbers.add(&PLACES, offset, entry);
+        if let Some(entry) = SratEntry::read(revision, entry)
+            && entry.is_enabled() != Some(false)
+        {
+            let (domain, place) = domain_of(&entry);
+            numbers.push(DOMAINS, domain as u64, offset.saturating_add(place));
+        }
+        rest = others;
+    }
+}
+
+/// The domain of an entry of a SRAT, and its offset in the entry.
+fn domain_of(entry: &SratEntry) -> (u32, usize) {
+    match entry {
+        SratEntry::LocalApic(it) => (it.domain, 2),
+        SratEntry::Memory(it) => (it.domain, 2),
+        SratEntry::LocalX2Apic(it) => (it.domain, 4),
+        SratEntry::Gicc(it) => (it.domain, 2),
+        SratEntry::GicIts(it) => (it.domain, 2),
+        SratEntry::GenericInitiator(it) | SratEntry::GenericPort(it) => (it.domain, 4),
+    }
+}
+
+/// Judges the processors of a MADT beside the processors of a SRAT.
+fn check_processors(srat: usize, madt: usize, numbers: &Numbers, findings: &mut Findings) {
+    for (list, number, offset) in numbers.all.iter() {
+        let (by_uid, number) = (*list % 2, *number);
+        let (table, other, id, why) = match *list - by_uid {
+            PLACED => (srat, LISTED, "srat-unknown-processor", "isn't in the MADT"),
+            ENABLED => (madt, PLACED, "srat-no-domain", "has no domain in the SRAT"),
+            _ => continue,
+        };
+        if !numbers.has(other + by_uid, number) {
+            let what = if by_uid == 0 { "APIC ID" } else { "UID" };
+            let start = findings.text.length();
+            write!(findings.text, "the processor with the {what} {number} {why}");
+            findings.table = table;
+            findings.end(id, *offset, start);
+        }
+    }
+}
+
+/// Judges whether each domain of a SRAT is one of the localities of a SLIT.
+fn check_localities(count: u64, numbers: &Numbers, findings: &mut Findings) {
+    let mut before = None;
+    for (list, domain, offset) in numbers.all.iter() {
+        if *list == DOMAINS && *domain >= count && before != Some(*domain) {
+            findings.add("slit-too-few", *offset, &[*domain, count]);
+            before = Some(*domain);
+        }
+    }
+}
+
+/// Judges the distances of a SLIT: of each rule, the first from a locality to others.
+pub(crate) fn check_distances(slit: &[u8], findings: &mut Findings) {
+    let distances = Distances::over(slit);
+    let count = distances.localities();
+    for from in 0..count {
+        let Some(own) = distances.distance(from, from) else {
+            return;
+        };
+        let row = count.saturating_mul(from).saturating_add(44);
+        if own != 10 {
+            let at = row.saturating_add(from) as usize;
+            findings.add("slit-diagonal", at, &[from, own as u64]);
+        }
+        let (mut is_low, mut is_other) = (false, false);
+        for to in 0..count {
+            let Some(distance) = distances.distance(from, to) else {
+                break;
+            };
+            let (at, distance) = (row.saturating_add(to) as usize, distance as u64);
+            if distance < 10 && from != to && !is_low {
+                findings.add("slit-reserved-distance", at, &[to, distance, from]);
+                is_low = true;
+            }
+            if to < from
+                && !is_other
+                && let Some(back) = distances.distance(to, from)
+                && back as u64 != distance
+            {
+                let numbers = &[distance, from, to, back as u64, to, from];
+                findings.add("slit-asymmetric", at, numbers);
+                is_other = true;
+            }
+        }
+    }
+}

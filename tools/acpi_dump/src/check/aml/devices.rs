@@ -1,0 +1,211 @@
+//! Devices, processors and events (ACPI 6.5, sections 5.2.12, 5.6.4.1 and 6.1.12).
+
+use super::names::{Names, ROOT};
+use super::values::text_in;
+use crate::check::findings::Findings;
+use crate::check::machine::Machine;
+use crate::check::numbers::{Kept, Numbers};
+use crate::check::pieces::Pieces;
+use acpi_programs::rattle::Vec;
+use acpi_programs::walk::aml::constant::{elements_of, integer_in, next_element};
+use acpi_programs::walk::fields::print_path;
+use zacpi::sdt::{Signature, field};
+
+/// An id: as an integer, and as a text.
+pub(super) type Id = (u64, &'static [u8]);
+
+/// Whether a constant is one of ids, or a package that has one.
+fn is_one(data: &[u8], ids: &[Id]) -> bool {
+    let (number, text) = (integer_in(data), text_in(data).unwrap_or(&[]));
+    ids.iter().any(|id| number == Some(id.0) || text == id.1)
+}
+
+/// Whether the device whose path has a number has one of ids.
+pub(super) fn has_id(names: &Names<'_>, device: u64, ids: &[Id]) -> bool {
+    if let Some(id) = names.find_in(device, b"_HID")
+        && is_one(id.data, ids)
+    {
+        return true;
+    }
+    let Some(id) = names.find_in(device, b"_CID") else {
+        return false;
+    };
+    let Some((_, elements)) = elements_of(id.data) else {
+        return is_one(id.data, ids);
+    };
+    let mut rest = elements;
+    for _ in 0..elements.len() {
+        let Some((element, others)) = next_element(rest) else {
+            return false;
+        };
+        if is_one(element, ids) {
+            return true;
+        }
+        rest = others;
+    }
+    false
+}
+
+/// The integer that a name in the object whose path has a number is set to.
+pub(super) fn integer_of(names: &Names<'_>, scope: u64, name: &[u8]) -> Option<u64> {
+    integer_in(names.find_in(scope, name)?.data)
+}
+
+/// What an id or a _UID is: an integer by its value, and else its bytes.
+fn value_of(data: &[u8]) -> (Option<u64>, &[u8]) {
+    match integer_in(data) {
+        Some(number) => (Some(number), &[]),
+        None => (None, data),
+    }
+}
+
+/// Finds devices that have the _HID and the _UID of another one before them. One that is never there doesn't count.
+pub(super) fn check_ids(names: &Names<'_>, findings: &mut Findings) {
+    let mut found = Vec::new(findings.alloc);
+    for (number, it) in names.all.iter().enumerate() {
+        if it.kind == "Name"
+            && matches!(names.name(it), b"_UID")
+            && let Some(id) = names.find_in(it.scope, b"_HID")
+            && id.kind == "Name"
+            && !matches!(integer_of(names, it.scope, b"_STA"), Some(status) if status & 1 == 0)
+        {
+            let device = (value_of(id.data), value_of(it.data), number);
+            findings.need(found.push(device).is_ok());
+        }
+    }
+    findings.need(found.sort_by_key(|it| *it).is_ok());
+    for pair in found.windows(2) {
+        if let [one, next] = pair
+            && one.0 == next.0
+            && one.1 == next.1
+        {
+            tell_unique(names, next.2, one.2, findings);
+        }
+    }
+}
+
+/// Finds that the _UID with a number among the objects is another one's, of a device with the same _HID.
+fn tell_unique(names: &Names<'_>, number: usize, other: usize, findings: &mut Findings) {
+    let (Some(it), Some(other)) = (names.all.get(number), names.all.get(other)) else {
+        return;
+    };
+    if it.key == other.key {
+        return;
+    }
+    findings.table = it.table;
+    let start = findings.text.length();
+    print_path(names.scope_path(other), &mut findings.text);
+    findings.text.text(" has the same _HID and _UID");
+    findings.end("aml-uid-twice", it.offset, start);
+}
+
+/// Whether the device whose path has a number is a processor (section 5.6.7).
+fn is_processor(names: &Names<'_>, device: u64) -> bool {
+    match names.find_in(device, b"_HID") {
+        Some(id) => matches!(text_in(id.data), Some(b"ACPI0007")),
+        None => false,
+    }
+}
+
+/// The list of the UIDs of the AML's processors, and the one of the MADT's that are enabled.
+const DEFINED: u64 = 0;
+
+const ENABLED: u64 = 1;
+
+/// The enabled processors of a MADT.
+const PROCESSORS: [Kept; 5] = [
+    (0, ENABLED, (2, 1), 4),
+    (9, ENABLED, (12, 4), 8),
+    (0xb, ENABLED, (8, 4), 12),
+    (0x11, ENABLED, (3, 4), 11),
+    (0x18, ENABLED, (16, 4), 4),
+];
+
+/// Adds the UIDs of the processors of the AML. Returns whether they are all.
+fn add_processors(names: &Names<'_>, numbers: &mut Numbers) -> bool {
+    for it in names.all.iter() {
+        if it.kind == "Processor" {
+            numbers.push(DEFINED, field(it.data, 0, 1), it.offset);
+        } else if it.kind == "Device" && is_processor(names, it.key) {
+            match integer_of(names, it.key, b"_UID") {
+                Some(unique) => numbers.push(DEFINED, unique, it.offset),
+                None => return false,
+            }
+        }
+    }
+    true
+}
+
+/// Finds the first enabled processor of the MADT that the AML hasn't, if it has processors.
+pub(super) fn check_processors(machine: &Machine<'_>, names: &Names<'_>, findings: &mut Findings) {
+    let Some((index, madt)) = machine.first(Signature::MADT) else {
+        return;
+    };
+    let mut numbers = Numbers::new(machine.alloc);
+    if !names.are_all || !machine.is_whole() || !add_processors(names, &mut numbers) {
+        return;
+    }
+    for (offset, entry) in Pieces::of(madt, 44, (1, 1)) {
+        numbers.add(&PROCESSORS, offset, entry);
+    }
+    findings.need(numbers.sort());
+    if numbers.from(DEFINED, 0).is_none() {
+        return;
+    }
+    let (mut first, mut count) = (None, 0u64);
+    for (list, unique, offset) in numbers.all.iter() {
+        if *list == ENABLED && !numbers.has(DEFINED, *unique) {
+            first = first.or(Some((*unique, *offset)));
+            count = count.saturating_add(1);
+        }
+    }
+    if let Some((unique, offset)) = first {
+        findings.table = index;
+        findings.add("aml-no-processor", offset, &[unique, count]);
+    }
+}
+
+/// The event that a method in \_GPE is for, by the last three letters of its name.
+fn event_of(name: &[u8]) -> Option<u64> {
+    match name {
+        [b'_', b'L' | b'E', digits @ ..] => u64::from_str_radix(str::from_utf8(digits).ok()?, 16).ok(),
+        _ => None,
+    }
+}
+
+/// Whether a FADT of fixed hardware has a general purpose event: half of a block's bytes have a bit for each.
+fn has_event(fadt: &[u8], event: u64) -> bool {
+    let base = field(fadt, 94, 1); // GPE1_BASE
+    let first = (field(fadt, 92, 1) / 2).saturating_mul(8); // GPE0_BLK_LEN
+    let second = (field(fadt, 93, 1) / 2).saturating_mul(8); // GPE1_BLK_LEN
+    event < first || base <= event && event < base.saturating_add(second)
+}
+
+/// Judges the methods of general purpose events.
+pub(super) fn check_events(machine: &Machine<'_>, names: &Names<'_>, findings: &mut Findings) {
+    let Some(scope) = names.number_of(ROOT, b"_GPE") else {
+        return;
+    };
+    let fadt = machine.first(Signature::FADT).map(|(_, fadt)| fadt);
+    for it in names.all.iter() {
+        let name = names.name(it);
+        let Some(event) = event_of(name) else {
+            continue;
+        };
+        if it.scope != scope || it.kind != "Method" {
+            continue;
+        }
+        findings.table = it.table;
+        if let Some(fadt) = fadt
+            && field(fadt, 112, 4) & 1 << 20 == 0 // HW_REDUCED_ACPI
+            && !has_event(fadt, event)
+        {
+            findings.add("aml-gpe-nowhere", it.offset, &[event]);
+        }
+        if let [_, b'L', high, low] = name
+            && names.find_in(scope, &[b'_', b'E', *high, *low]).is_some()
+        {
+            findings.add("aml-gpe-twice", it.offset, &[event]);
+        }
+    }
+}

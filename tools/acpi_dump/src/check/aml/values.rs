@@ -1,0 +1,189 @@
+//! What names of a meaning are set to: ids, states and references (ACPI 6.5, sections 6.1, 6.2.13, 6.3.7 and 7.4.2).
+
+use super::names::{Named, Names, ROOT};
+use crate::check::findings::Findings;
+use crate::check::machine::Machine;
+use acpi_programs::walk::aml::constant::{elements_of, integer_in, is_eisa_id, name_in, next_element};
+use acpi_programs::walk::fields::print_path;
+use zacpi::sdt::{Signature, field};
+
+/// The text that a constant is, without its zero.
+pub(super) fn text_in(data: &[u8]) -> Option<&[u8]> {
+    match data {
+        [0x0D, text @ ..] => text.strip_suffix(&[0]),
+        _ => None,
+    }
+}
+
+/// Judges what a name is set to by the name.
+pub(super) fn check_value(names: &Names<'_>, it: &Named<'_>, findings: &mut Findings) {
+    match names.name(it) {
+        b"_HID" => check_id(it.at, it.data, true, findings),
+        b"_CID" => check_compatible(it, findings),
+        b"_STA" => check_status(it, findings),
+        b"_S0_" | b"_S1_" | b"_S2_" | b"_S3_" | b"_S4_" | b"_S5_" if it.scope == ROOT => check_types(it, findings),
+        _ => {}
+    }
+}
+
+/// Judges the ids of _CID: one, or a package of them.
+fn check_compatible(it: &Named<'_>, findings: &mut Findings) {
+    let Some((_, elements)) = elements_of(it.data) else {
+        return check_id(it.at, it.data, false, findings);
+    };
+    let end = it.at.saturating_add(it.data.len());
+    let mut rest = elements;
+    for _ in 0..elements.len() {
+        let Some((element, others)) = next_element(rest) else {
+            return;
+        };
+        check_id(end.saturating_sub(rest.len()), element, false, findings);
+        rest = others;
+    }
+}
+
+/// Judges an id at an offset of a table. A text in _CID may also be that of another bus, such as `PCI\CC_0604`, and is
+/// judged if it has the length of an id.
+fn check_id(at: usize, data: &[u8], is_hid: bool, findings: &mut Findings) {
+    if let Some(number) = integer_in(data) {
+        let [a, b, c, d, _, _, _, _] = number.to_le_bytes();
+        if number >> 32 != 0 || !is_eisa_id(&[0x0C, a, b, c, d]) {
+            findings.add("aml-eisa-id", at, &[number]);
+        }
+    } else if let Some(text) = text_in(data) {
+        if !is_text_id(text) && (is_hid || text.len() == 7 || text.len() == 8) {
+            findings.add("aml-text-id", at, &[]);
+        }
+    }
+}
+
+/// Whether a text is a PNP id or an ACPI id.
+fn is_text_id(text: &[u8]) -> bool {
+    let prefix = text.len().saturating_sub(4);
+    let letters = text.get(..prefix).unwrap_or(&[]);
+    let digits = text.get(prefix..).unwrap_or(&[]);
+    let may_be_digits = prefix == 4;
+    (prefix == 3 || prefix == 4)
+        && letters.iter().all(|it| it.is_ascii_uppercase() || may_be_digits && it.is_ascii_digit())
+        && digits.iter().all(|it| it.is_ascii_hexdigit())
+}
+
+/// Judges a constant _STA.
+fn check_status(it: &Named<'_>, findings: &mut Findings) {
+    if let Some(status) = integer_in(it.data)
+        && status >> 5 != 0
+    {
+        findings.add("aml-status", it.at, &[status, status >> 5 << 5]);
+    }
+}
+
+/// Judges the types of a sleep state: the first two elements, of which the second may be missing.
+fn check_types(it: &Named<'_>, findings: &mut Findings) {
+    let Some((_, mut rest)) = elements_of(it.data) else {
+        return;
+    };
+    let end = it.at.saturating_add(it.data.len());
+    for _ in 0..2 {
+        let Some((element, others)) = next_element(rest) else {
+            return;
+        };
+        let at = end.saturating_sub(rest.len());
+        match integer_in(element) {
+            Some(number) if number > 7 => {
+                let words = "the type # has more than three bits";
+                findings.add_words("aml-sleep-type", at, words, &[number]);
+            }
+            None if name_in(element).is_none() => {
+                findings.add_words("aml-sleep-type", at, "a type is no integer", &[]);
+            }
+            _ => {}
+        }
+        rest = others;
+    }
+}
+
+/// Finds that a machine of fixed hardware hasn't \_S5.
+pub(super) fn check_soft_off(machine: &Machine<'_>, names: &Names<'_>, findings: &mut Findings) {
+    let Some((_, fadt)) = machine.first(Signature::FADT) else {
+        return;
+    };
+    let is_reduced = field(fadt, 112, 4) & 1 << 20 != 0; // HW_REDUCED_ACPI
+    if let Some((number, _)) = machine.first(Signature::DSDT)
+        && !is_reduced
+        && names.are_all
+        && machine.is_whole()
+        && names.find_in(ROOT, b"_S5_").is_none()
+    {
+        findings.table = number;
+        findings.add("aml-no-s5", 0, &[]);
+    }
+}
+
+/// Finds link devices that a _PRT names and that aren't there, of each _PRT the first.
+pub(super) fn check_links(machine: &Machine<'_>, names: &Names<'_>, findings: &mut Findings) {
+    if !names.are_all || !machine.is_whole() {
+        return;
+    }
+    for it in names.all.iter() {
+        if it.kind == "Name" && matches!(names.name(it), b"_PRT") {
+            check_routes(names, it, findings);
+        }
+    }
+}
+
+/// Finds the first link device that a constant _PRT names and that isn't there.
+fn check_routes(names: &Names<'_>, it: &Named<'_>, findings: &mut Findings) {
+    let Some((_, elements)) = elements_of(it.data) else {
+        return;
+    };
+    let end = it.at.saturating_add(it.data.len());
+    let mut rest = elements;
+    for _ in 0..elements.len() {
+        let Some((route, others)) = next_element(rest) else {
+            return;
+        };
+        if let Some(source) = source_of(route)
+            && let Some((is_rooted, ups, segments)) = name_in(source)
+            && !is_there(names, it, (is_rooted, ups, segments))
+        {
+            findings.table = it.table;
+            let start = findings.text.length();
+            print_path(segments, &mut findings.text);
+            findings.text.text(" isn't defined");
+            return findings.end("aml-link-nowhere", end.saturating_sub(rest.len()), start);
+        }
+        rest = others;
+    }
+}
+
+/// The source of a route: its third element.
+fn source_of(route: &[u8]) -> Option<&[u8]> {
+    let (_, elements) = elements_of(route)?;
+    let (_, rest) = next_element(elements)?;
+    let (_, rest) = next_element(rest)?;
+    Some(next_element(rest)?.0)
+}
+
+/// Whether there is what an object refers to: whether that begins at the root, how many scopes up it begins, and its
+/// segments. One segment alone is sought in all scopes outwards (section 5.3).
+fn is_there(names: &Names<'_>, it: &Named<'_>, name: (bool, usize, &[u8])) -> bool {
+    let (is_rooted, ups, segments) = name;
+    let scope = names.scope_path(it);
+    let depth = (scope.len() / 4).saturating_sub(ups);
+    if is_rooted {
+        return names.find_in(ROOT, segments).is_some();
+    }
+    let is_sought = ups == 0 && segments.len() == 4;
+    for up in 0..=depth {
+        let outer = scope.get(..depth.saturating_sub(up).saturating_mul(4)).unwrap_or(&[]);
+        if let Some(scope) = names.number_of(ROOT, outer)
+            && names.find_in(scope, segments).is_some()
+        {
+            return true;
+        }
+        if !is_sought {
+            return false;
+        }
+    }
+    false
+}

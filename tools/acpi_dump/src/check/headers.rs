@@ -1,0 +1,258 @@
+//! The headers of all tables (ACPI 6.5, section 5.2.6), and what all of them reserve.
+
+use crate::check::devices::register_at;
+use crate::check::findings::Findings;
+use acpi_programs::input::entries::{Entry, own_signature};
+use acpi_programs::input::status::Status;
+use acpi_programs::rattle::Pieces;
+use acpi_programs::walk::fault::Fault;
+use acpi_programs::walk::fields::unnamed_in;
+use acpi_programs::walk::language::{cut_at, is_chosen, next_word, number_of};
+use acpi_programs::walk::walk::{Field, Show, walk_table};
+use zacpi::AcpiError;
+use zacpi::sdt::field;
+
+pub(crate) const RULES: &str = "
+header-sum error ACPI 6.5, section 5.2.6 | The bytes of a table don't sum to 0
+header-refused error ACPI 6.5, section 5.2.6 | A table has no valid header, or its bytes aren't all there
+header-bytes-after warning ACPI 6.5, section 5.2.6 | Bytes come after those that the Length counts \
+    | is %, and % more come
+table-malformed error ACPI 6.5, section 5.2 | A structure or a list of a table isn't as its type and its length want it
+header-short error ACPI 6.5, section 5.2.6 | The Length ends in the fields of the table's revision \
+    | is %, and the fields of revision % take %
+header-length warning ACPI 6.5, section 5.2.6 | The Length isn't one that the table's revision has
+header-revision note ACPI 6.5, section 5.2.6 | No specification has the table's Revision \
+    | no revision % is known
+header-letters note ACPI 6.5, section 5.2.6 | OEMID, OEM Table ID or Creator ID has letters that aren't printable \
+    | letters that aren't printable
+header-reserved note ACPI 6.5, section 5.2.1 | A reserved field isn't 0 | isn't 0
+field-code note ACPI 6.5, section 5.2.1 | A code or a flag is one that no specification names | # is reserved
+";
+
+/// The forms of tables: the signature, the revision or the first and the last one that have it, and the length: the
+/// least one and, after `+`, steps from that on, or after `/` further ones, as FADTs of later revisions may have the
+/// fields of earlier ones alone. Each table's own specification has them.
+const FORMS: &str = "\
+RSDT 1 36+4
+XSDT 1 36+8
+FACP 1 116
+FACP 2 132
+FACP 3-6 244/268/276
+DSDT 1-2 36+1
+SSDT 1-2 36+1
+APIC 1-7 44+1
+SBST 1 48
+ECDT 1 66+1
+SRAT 1-3 48+1
+SLIT 1 44+1
+MSCT 1 56+1
+BGRT 1 56
+FPDT 1 36+1
+GTDT 1 80
+GTDT 2-3 96+1
+PCCT 1-2 48+1
+PPTT 1-3 36+1
+HMAT 1-2 40+1
+HEST 1-2 40+1
+BERT 1 48
+ERST 1 48+32
+EINJ 1-2 48+32
+NFIT 1 40+1
+HPET 1 56
+MCFG 1 44+16
+SPCR 1-3 80
+SPCR 4 88+1
+DBGP 1 52
+DBG2 0 44+1
+WAET 1 40
+TPM2 3-5 52+1
+BOOT 1 40
+WSMT 1 40
+UEFI 1 54+1
+TCPA 0-255 50+1
+DMAR 0-255 48+1
+IVRS 0-255 48+1
+IORT 0-255 48+1
+VIOT 0-255 48+1";
+
+/// Judges a table's header, if it has one, and each field by itself.
+pub(crate) fn check_header(entry: &Entry<'_>, findings: &mut Findings) {
+    check_status(entry, findings);
+    let (signature, mut table) = (own_signature(entry.bytes), entry.bytes);
+    let name = signature.as_str().unwrap_or("");
+    let mut is_known = true;
+    if !entry.bytes.starts_with(b"FACS") && !entry.bytes.starts_with(b"RSD PTR ") {
+        if entry.bytes.len() < 36 {
+            return;
+        }
+        table = entry.table();
+        is_known = check_form(table, name, findings);
+    }
+    let mut fields = Fields {
+        findings,
+        name,
+        is_known,
+        is_whole: !matches!(entry.status, Status::Cut { .. } | Status::Refused(_)),
+        has_codes: is_known && has_codes(table, name),
+    };
+    walk_table(signature, table, &mut fields);
+}
+
+/// Whether the codes and flags of a table count: a FADT's and a MADT's have rules of their own, a HEST's 0 has no name
+/// in the layout, and an SPCR whose base address is all zeros is of no console.
+fn has_codes(table: &[u8], name: &str) -> bool {
+    match name {
+        "FACP" | "APIC" | "HEST" => false,
+        "SPCR" => register_at(table, 40).is_some(),
+        _ => true,
+    }
+}
+
+/// Judges what the checks of a table say. What they say of a FACS of under 64 bytes is a rule of its own.
+fn check_status(entry: &Entry<'_>, findings: &mut Findings) {
+    let is_short_facs = entry.bytes.starts_with(b"FACS") && field(entry.bytes, 4, 4) < 64;
+    if is_short_facs || entry.bytes.is_empty() {
+        return;
+    }
+    let offset = match entry.status {
+        Status::WrongSum { is, should, .. } => {
+            let start = findings.text.length();
+            write!(findings.text, "is 0x{is:02x}, should be 0x{should:02x}");
+            return findings.end("header-sum", 9, start);
+        }
+        Status::Longer(over) => {
+            let numbers = [field(entry.bytes, 4, 4), over as u64];
+            return findings.add("header-bytes-after", 4, &numbers);
+        }
+        Status::Cut { .. } | Status::Refused(AcpiError::SdtInvalidLength(_)) => 4,
+        Status::Refused(_) => 0,
+        _ => return,
+    };
+    findings.add_value("header-refused", offset, &entry.status);
+}
+
+/// The length of the form that tables of a name have in a revision, if there is one, and whether forms of the name are
+/// known.
+fn form_of(name: &str, revision: u64) -> (Option<&'static str>, bool) {
+    let mut has_form = false;
+    for line in FORMS.pieces('\n') {
+        let (of, line) = next_word(line);
+        let (revisions, length) = next_word(line);
+        if of == name {
+            has_form = true;
+            if is_chosen(revision, revisions) {
+                return (Some(length), true);
+            }
+        }
+    }
+    (None, has_form)
+}
+
+/// Judges the letters, the length and the revision in the header of a table of a name. Returns whether the revision
+/// is known, or none of that name is.
+fn check_form(table: &[u8], name: &str, findings: &mut Findings) -> bool {
+    for (offset, end) in [(10usize, 16usize), (16, 24), (28, 32)].iter() {
+        if !is_printable(table.get(*offset..*end).unwrap_or(&[])) {
+            findings.add("header-letters", *offset, &[]);
+        }
+    }
+    let revision = field(table, 8, 1);
+    match form_of(name, revision) {
+        (Some(length), _) => check_length(table, length, findings),
+        (None, true) => {
+            findings.add("header-revision", 8, &[revision]);
+            return false;
+        }
+        _ => {}
+    }
+    true
+}
+
+/// Judges the length of a table, which is to be that of a form.
+fn check_length(table: &[u8], form: &str, findings: &mut Findings) {
+    let (length, revision) = (field(table, 4, 4), field(table, 8, 1));
+    let (least, _) = lengths_of(cut_at(form, '/').0);
+    if length < 36 {
+        return;
+    }
+    if length < least {
+        return findings.add("header-short", 4, &[length, revision, least]);
+    }
+    let is_right = form.pieces('/').any(|part| has_length(length, part));
+    if !is_right {
+        let start = findings.text.length();
+        let numbers = [length, revision];
+        findings.text.words("is %, and for revision % ", &numbers);
+        findings.text.text(form);
+        findings.end("header-length", 4, start);
+    }
+}
+
+/// The least length of a form's part, and the steps from that on, or 0.
+fn lengths_of(part: &str) -> (u64, u64) {
+    let (least, step) = cut_at(part, '+');
+    (number_of(least).unwrap_or(0), number_of(step).unwrap_or(0))
+}
+
+/// Whether a length is one of a form's part.
+fn has_length(length: u64, part: &str) -> bool {
+    let (least, step) = lengths_of(part);
+    match length.checked_sub(least) {
+        Some(over) if step > 0 => over % step == 0,
+        over => over == Some(0),
+    }
+}
+
+/// Whether letters are printable ASCII, but for zeros at the end.
+fn is_printable(letters: &[u8]) -> bool {
+    let mut has_ended = false;
+    for letter in letters {
+        if *letter == 0 {
+            has_ended = true;
+        } else if has_ended || !(0x20..0x7f).contains(letter) {
+            return false;
+        }
+    }
+    true
+}
+
+/// What judges the fields of a table of a name by themselves.
+struct Fields<'f> {
+    findings: &'f mut Findings,
+    name: &'f str,
+    /// Whether what it reserves is known.
+    is_known: bool,
+    /// Whether all its bytes are there.
+    is_whole: bool,
+    /// Whether codes and flags count that its layout doesn't name.
+    has_codes: bool,
+}
+
+impl Show for Fields<'_> {
+    fn malformed(&mut self, offset: u64, fault: Fault) {
+        if self.is_whole {
+            let start = self.findings.text.length();
+            fault.print(offset, &mut self.findings.text);
+            self.findings.end("table-malformed", offset as usize, start);
+        }
+    }
+
+    fn field(&mut self, shown: &Field<'_>) {
+        let offset = shown.offset as usize;
+        if self.has_codes
+            && let Some(number) = unnamed_in(shown)
+        {
+            self.findings.add("field-code", offset, &[number]);
+        }
+        if !self.is_known || shown.label.name != "Reserved" {
+            return;
+        }
+        // A field of a SRAT is reserved to be 1, and INT_MODEL of ACPI 1.0 may be.
+        let may_be_one = matches!((self.name, offset), ("SRAT", 36) | ("FACP", 44));
+        let is_one = matches!(shown.bytes, [1] | [1, 0, 0, 0]);
+        let is_zero = shown.bytes.iter().all(|byte| *byte == 0);
+        if !is_zero && !(is_one && may_be_one) {
+            self.findings.add("header-reserved", offset, &[]);
+        }
+    }
+}

@@ -1,0 +1,166 @@
+//! What leads to the tables: the RSDP, the RSDT and the XSDT (ACPI 6.5, sections 5.2.5, 5.2.7 and 5.2.8).
+
+use crate::check::findings::Findings;
+use crate::check::machine::Machine;
+use crate::check::numbers::Numbers;
+use crate::check::spans::{Span, overlaps};
+use acpi_programs::input::entries::own_signature;
+use acpi_programs::input::status::Status;
+use acpi_programs::rattle::Vec;
+use zacpi::sdt::{Signature, field};
+
+pub(crate) const RULES: &str = "
+root-null-pointer warning ACPI 6.5, section 5.2.8 | The root table lists the address 0 | no table is at 0
+root-listed-twice warning ACPI 6.5, section 5.2.8 | The root table lists an address twice | the address # is also at #
+root-lists-differ warning ACPI 6.5, section 5.2.5.3 | The RSDT and the XSDT list different tables
+root-rsdt-in-use note ACPI 6.5, section 5.2.8 | An RSDT leads to the tables of a machine since ACPI 2.0, which \
+has an XSDT
+root-second-table warning ACPI 6.5, section 5.2.6 | A table of which a machine has one is there twice \
+    | a machine has one of them
+root-nothing-there note ACPI 6.5, section 5.2.8 | The input has no byte of a table that is listed
+root-no-fadt error ACPI 6.5, section 5.2.9 | No FADT is listed | lists no FADT
+root-no-madt warning ACPI 6.5, section 5.2.12 | No MADT is listed | lists no MADT
+root-overlap error ACPI 6.5, section 5.2 | Two tables share bytes | shares bytes with the table at #
+";
+
+/// The signatures of tables of which a machine has one.
+const SINGLE: &str = "APIC BERT BGRT CPEP DBG2 DMAR DSDT ECDT EINJ ERST FACP FACS FPDT GTDT HEST HMAT IORT IVRS \
+                      MCFG MSCT NFIT PCCT PPTT RHCT SBST SLIT SPCR SRAT TPM2 WAET WDAT WSMT";
+
+/// The pointers of the root table, and of the RSDT beside it, as lists of numbers.
+const LISTED: u64 = 0;
+
+const BESIDE: u64 = 1;
+
+/// Judges what leads to the tables, and where these are.
+pub(crate) fn check_roots(machine: &Machine<'_>, findings: &mut Findings) {
+    let mut pointers = Numbers::new(machine.alloc);
+    if let Some((index, xsdt)) = machine.first(Signature::XSDT) {
+        findings.table = index;
+        add_pointers(LISTED, xsdt, 8, &mut pointers);
+        add_pointers(BESIDE, machine.rsdt, 4, &mut pointers);
+        check_pointers(!machine.rsdt.is_empty(), &mut pointers, findings);
+        check_listed(machine, findings);
+    } else if let Some((index, rsdt)) = machine.first(Signature::RSDT) {
+        findings.table = index;
+        add_pointers(LISTED, rsdt, 4, &mut pointers);
+        check_pointers(false, &mut pointers, findings);
+        check_revision(machine, findings);
+        check_listed(machine, findings);
+    }
+    check_second(machine, findings);
+    check_overlap(machine, findings);
+}
+
+/// Adds the pointers of a root table, each of `width` bytes, to a list.
+fn add_pointers(list: u64, table: &[u8], width: usize, pointers: &mut Numbers) {
+    let mut offset = 36usize;
+    for pointer in table.get(36..).unwrap_or(&[]).chunks(width.max(1)) {
+        if pointer.len() == width {
+            pointers.push(list, field(pointer, 0, width.min(8)), offset);
+        }
+        offset = offset.saturating_add(width);
+    }
+}
+
+/// Judges the pointers of the root table, and compares an XSDT with the RSDT that is beside it.
+fn check_pointers(has_beside: bool, pointers: &mut Numbers, findings: &mut Findings) {
+    findings.add_repeated(&["root-listed-twice"], pointers);
+    for (list, address, offset) in pointers.all.iter() {
+        let (list, address) = (*list, *address);
+        if address == 0 {
+            if list == LISTED {
+                findings.add("root-null-pointer", *offset, &[]);
+            }
+        } else if list == BESIDE {
+            if !pointers.has(LISTED, address) {
+                let words = "the RSDT lists # as well";
+                findings.add_words("root-lists-differ", 4, words, &[address]);
+            }
+        } else if has_beside && address < 1 << 32 && !pointers.has(BESIDE, address) {
+            let words = "the RSDT doesn't list #";
+            findings.add_words("root-lists-differ", *offset, words, &[address]);
+        }
+    }
+}
+
+/// Judges that an RSDT leads to the tables, by the revisions of the RSDP and the FADT.
+fn check_revision(machine: &Machine<'_>, findings: &mut Findings) {
+    let fadt = machine.first(Signature::FADT).map_or(0, |(_, fadt)| field(fadt, 8, 1));
+    let rsdp = field(machine.rsdp, 15, 1);
+    if rsdp >= 2 {
+        let words = "the RSDP has revision %, and so an XSDT";
+        findings.add_words("root-rsdt-in-use", 0, words, &[rsdp]);
+    } else if fadt >= 3 {
+        let words = "the FADT has revision %, as machines with an XSDT have it";
+        findings.add_words("root-rsdt-in-use", 0, words, &[fadt]);
+    }
+}
+
+/// Finds that the root table lists no FADT, or no MADT, if an RSDP leads to it or there are three other tables or more,
+/// and the input has all tables that it lists, as far as that can be told.
+fn check_listed(machine: &Machine<'_>, findings: &mut Findings) {
+    if machine.rsdp.is_empty() && machine.entries.len() < 4 {
+        return;
+    }
+    let (mut has_fadt, mut has_madt) = (false, false);
+    for entry in machine.entries {
+        if entry.bytes.is_empty() {
+            return;
+        }
+        let signature = own_signature(entry.bytes);
+        has_fadt |= signature == Signature::FADT;
+        has_madt |= signature == Signature::MADT;
+    }
+    if !has_fadt {
+        findings.add("root-no-fadt", 4, &[]);
+    }
+    if !has_madt {
+        findings.add("root-no-madt", 4, &[]);
+    }
+}
+
+/// Finds second tables of which a machine has one, unless the one before it is at the same place.
+fn check_second(machine: &Machine<'_>, findings: &mut Findings) {
+    let mut tables = Numbers::new(machine.alloc);
+    for (index, entry) in machine.entries.iter().enumerate() {
+        if SINGLE.contains(own_signature(entry.bytes).as_str().unwrap_or("-")) {
+            tables.push(0, field(entry.bytes, 0, 4), index);
+        }
+    }
+    findings.need(tables.sort());
+    let mut before = (0, None);
+    for (_, letters, index) in tables.all.iter() {
+        let place = machine.entries.get(*index).and_then(|entry| entry.place.address());
+        let is_same_place = place == before.1 && !matches!(place, None | Some(0));
+        if before.0 == *letters && !is_same_place {
+            findings.table = *index;
+            findings.add("root-second-table", 0, &[]);
+        }
+        before = (*letters, place);
+    }
+}
+
+/// Finds tables that have no bytes, and those that share some, of which it takes the one of a higher address.
+fn check_overlap(machine: &Machine<'_>, findings: &mut Findings) {
+    let mut spans = Vec::new(machine.alloc);
+    for (index, entry) in machine.entries.iter().enumerate() {
+        let address = entry.place.address().unwrap_or(0);
+        if address == 0 {
+            continue;
+        }
+        if let Some(more) = entry.bytes.len().checked_sub(1) {
+            let span = Span::of(address, more as u64, index, 0);
+            findings.need(spans.push(span).is_ok());
+        } else if !matches!(entry.status, Status::NotHere) {
+            findings.table = index;
+            findings.add_value("root-nothing-there", 0, &entry.status);
+        }
+    }
+    for (before, span) in overlaps(&mut spans, findings) {
+        if span.first != before.first {
+            findings.table = span.offset;
+            findings.add("root-overlap", 0, &[before.first]);
+        }
+    }
+}

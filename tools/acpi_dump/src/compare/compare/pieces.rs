@@ -1,0 +1,95 @@
+//! The pieces that the value of an object of AML has: elements, of resources and of packages, and in these parts.
+
+use super::pairs::Key;
+use acpi_programs::rattle::Pieces;
+use acpi_programs::rattle::Vec;
+use acpi_programs::rattle::alloc::{AllocError, Global};
+
+/// A text up to the first of a mark that is outside of quotes and brackets, with a blank after it, and the rest.
+pub(super) fn cut_piece(text: &str, mark: u8) -> (&str, &str) {
+    let (mut depth, mut is_quoted, mut is_escaped) = (0u32, false, false);
+    for (place, letter) in text.as_bytes().iter().enumerate() {
+        let letter = *letter;
+        if is_escaped {
+            is_escaped = false;
+        } else if letter == b'"' {
+            is_quoted = !is_quoted;
+        } else if is_quoted {
+            is_escaped = letter == b'\\';
+        } else if matches!(letter, b'{' | b'(') {
+            depth = depth.saturating_add(1);
+        } else if matches!(letter, b'}' | b')') {
+            depth = depth.saturating_sub(1);
+        } else if letter == mark && depth == 0 {
+            let rest = text.get(place.saturating_add(2)..);
+            return (text.get(..place).unwrap_or(text), rest.unwrap_or(""));
+        }
+    }
+    (text, "")
+}
+
+/// The elements of a value.
+pub(super) fn elements_of<'a>(alloc: Global, value: &'a str) -> Result<Vec<&'a str>, AllocError> {
+    let mut elements = Vec::new(alloc);
+    let mut rest = value.trim_ascii();
+    for _ in 0..rest.len() {
+        if rest.is_empty() {
+            break;
+        }
+        let (element, others) = cut_piece(rest, b';');
+        elements.push(element)?;
+        rest = others;
+    }
+    Ok(elements)
+}
+
+/// What is in the braces of a package, or all of another element.
+pub(super) fn inner(element: &str) -> &str {
+    match element.strip_prefix('{') {
+        Some(rest) => rest.strip_suffix('}').unwrap_or(rest),
+        None => element,
+    }
+}
+
+/// What an element begins with, by which it is known: of a package two pieces, unless these have pieces themselves, and
+/// of others one.
+pub(super) fn head_of(element: &str) -> &str {
+    let whole = inner(element);
+    let (first, rest) = cut_piece(whole, b',');
+    if whole.len() == element.len() {
+        return first;
+    }
+    if whole.starts_with('{') || whole.starts_with('(') {
+        return "";
+    }
+    let (second, _) = cut_piece(rest, b',');
+    let end = first.len().saturating_add(second.len()).saturating_add(2);
+    whole.get(..end).unwrap_or(whole)
+}
+
+/// Of two texts, each as its first piece and the rest, whether the first pieces come now: both, or one that the other
+/// text has next was left out or added.
+pub(super) fn step_of(old: (&str, &str), new: (&str, &str)) -> (bool, bool) {
+    let is_next = |rest: &str, piece: &str| !rest.is_empty() && cut_piece(rest, b',').0 == piece;
+    if old.0 == new.0 {
+        (true, true)
+    } else if new == ("", "") || is_next(old.1, new.0) {
+        (true, false)
+    } else if old == ("", "") || is_next(new.1, old.0) {
+        (false, true)
+    } else {
+        (true, true)
+    }
+}
+
+/// By what elements are paired: their first words, what they begin with, and all of them.
+pub(super) fn keys_of<'a>(alloc: Global, elements: &[&'a str]) -> Result<Vec<Key<'a>>, AllocError> {
+    let mut keys = Vec::new(alloc);
+    for (number, element) in elements.iter().enumerate() {
+        let element = *element;
+        let (word, _) = element.two_pieces(' ').unwrap_or((element, ""));
+        keys.push((0, word, head_of(element), element, number))?;
+    }
+    keys.sort()?;
+    Ok(keys)
+}

@@ -1,0 +1,161 @@
+//! Single values of tables, by the words of `--get`.
+
+use crate::dump::options::refuse_option;
+use crate::dump::values::parse_signature;
+use acpi_programs::input::errors::{Log, Stop};
+use acpi_programs::rattle::Pieces;
+use acpi_programs::walk::aml::{Ends, Object, Value};
+use acpi_programs::walk::language::{cut_at, number_of};
+use acpi_programs::walk::walk::{Field, Group, Show, ShowObjects};
+use zacpi::sdt::Signature;
+
+/// A value: a field of a table, which may be in structures, or an object that AML defines.
+#[derive(Clone, Copy)]
+pub(crate) struct Wanted<'w> {
+    pub(crate) signature: Signature,
+    /// The structures, the outermost first, each by its number or its name, with `.` between them.
+    within: &'w str,
+    /// The name of the field, or the path of the object.
+    name: &'w str,
+    is_object: bool,
+}
+
+impl<'w> Wanted<'w> {
+    /// The value that a word requests: `SIG.FIELD`, `SIG.ENTRY.FIELD`, with more entries before it if they are in
+    /// others, or `SIG:OBJECT`.
+    pub(crate) fn read(word: &'w str) -> Option<Wanted<'w>> {
+        let (letters, path) = cut_at(word, ':');
+        let is_object = letters.len() == 4;
+        let (letters, within, name) = if is_object {
+            (letters, "", path)
+        } else {
+            let (letters, rest) = word.two_pieces('.')?;
+            let (within, name) = rest.rsplit_once('.').unwrap_or(("", rest));
+            (letters, within, name)
+        };
+        if name.is_empty() {
+            return None;
+        }
+        Some(Wanted { signature: parse_signature(letters)??, within, name, is_object })
+    }
+
+    /// The number or the name of the structure that is in this many others.
+    fn structure(&self, depth: usize) -> Option<&'w str> {
+        if self.within.is_empty() {
+            return None;
+        }
+        self.within.pieces('.').nth(depth)
+    }
+
+    /// Whether it is a structure that is in this many others.
+    fn is_in(&self, depth: usize, group: &Group) -> bool {
+        match self.structure(depth) {
+            Some(word) => word == group.name || number_of(word) == Some(group.number),
+            None => false,
+        }
+    }
+}
+
+/// Whether a field has a name, which a number may follow if it is one of several.
+fn is_field(name: &str, shown: &Field<'_>) -> bool {
+    match name.strip_prefix(shown.label.name) {
+        Some("") => true,
+        Some(rest) => shown.number.is_some() && number_of(rest.trim_ascii()) == shown.number,
+        None => false,
+    }
+}
+
+/// Whether a name is a path of four letters each. A segment that is shorter ends in `_`.
+fn is_path(name: &str, path: &[u8]) -> bool {
+    let names = name.strip_prefix('\\').unwrap_or(name);
+    let mut rest = path;
+    for name in names.pieces('.') {
+        if rest.len() < 4 {
+            return false;
+        }
+        let (segment, others) = rest.split_at(4);
+        if !is_segment(name.as_bytes(), segment) {
+            return false;
+        }
+        rest = others;
+    }
+    rest.is_empty()
+}
+
+/// Tests whether each word names a value.
+///
+/// Fails, after printing that, with the first that names none.
+pub(crate) fn check_wanted(words: &[&str], log: &mut Log) -> Result<(), Stop> {
+    for word in words {
+        if Wanted::read(*word).is_none() {
+            return Err(refuse_option(log, "get", *word));
+        }
+    }
+    Ok(())
+}
+
+/// Whether a name is a segment of a path.
+fn is_segment(name: &[u8], segment: &[u8]) -> bool {
+    match segment.strip_prefix(name) {
+        Some(rest) => !name.is_empty() && rest.iter().all(|letter| *letter == b'_'),
+        None => false,
+    }
+}
+
+/// Shows the first field or object with a value that is wanted to another, and nothing else.
+pub(crate) struct Finder<'f, S> {
+    pub(crate) wanted: Wanted<'f>,
+    /// How many structures have begun and haven't ended, and how many of the outermost ones of these are wanted.
+    depth: usize,
+    entered: usize,
+    pub(crate) is_found: bool,
+    show: &'f mut S,
+}
+
+impl<'f, S> Finder<'f, S> {
+    /// What looks for a value.
+    pub(crate) fn new(wanted: Wanted<'f>, show: &'f mut S) -> Finder<'f, S> {
+        Finder { wanted, depth: 0, entered: 0, is_found: false, show }
+    }
+}
+
+impl<S: Show> Show for Finder<'_, S> {
+    fn field(&mut self, shown: &Field<'_>) {
+        let is_here = self.entered == self.depth && self.wanted.structure(self.depth).is_none();
+        let name = self.wanted.name;
+        if !self.is_found && is_here && !self.wanted.is_object && is_field(name, shown) {
+            self.is_found = true;
+            self.show.field(shown);
+        }
+    }
+
+    fn begin(&mut self, group: &Group) {
+        if self.entered == self.depth && self.wanted.is_in(self.depth, group) {
+            self.entered = self.entered.saturating_add(1);
+        }
+        self.depth = self.depth.saturating_add(1);
+    }
+
+    fn end(&mut self) {
+        self.depth = self.depth.saturating_sub(1);
+        self.entered = self.entered.min(self.depth);
+    }
+}
+
+impl<S: ShowObjects> ShowObjects for Finder<'_, S> {
+    fn object(&mut self, object: &Object<'_>) {
+        let is_hidden = matches!(object.value, Value::Hidden);
+        if self.is_found || is_hidden || !self.wanted.is_object {
+            return;
+        }
+        let name = self.wanted.name;
+        if let Some(path) = object.path
+            && is_path(name, path)
+        {
+            self.is_found = true;
+            self.show.object(object);
+        }
+    }
+
+    fn ends(&mut self, _offset: u64, _why: Ends) {}
+}

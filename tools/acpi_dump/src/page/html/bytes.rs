@@ -1,0 +1,81 @@
+//! The bytes of a table, 16 a line, in runs of one field each: so that a mark needs no arithmetic.
+
+use super::escape::Piece::{Digits, Markup};
+use super::escape::{print_escaped, print_html};
+use super::marks::Change;
+use super::sheet::Sheet;
+use acpi_programs::walk::out::Out;
+
+/// The run that a byte may be of: the offset of the row that shows it, and whether it differs from the first input.
+type Run = Option<(u64, bool)>;
+
+/// The run that a byte of a table is of. The number is that of the field of a byte before, and is then that of its own.
+fn run_at(sheet: &Sheet<'_>, offset: u64, field: &mut usize) -> Run {
+    for place in *field..sheet.side.items.len() {
+        let item = sheet.side.items.get(place)?;
+        *field = place;
+        if offset < item.offset {
+            break;
+        }
+        if offset - item.offset < item.length {
+            let mark = sheet.mark(place);
+            let first = sheet.side.items.get(mark.row)?;
+            return Some((first.offset, !matches!(mark.change, Change::Same)));
+        }
+    }
+    None
+}
+
+/// Prints what ends a run, and then what begins one, where they aren't the same, and the blanks between them.
+fn print_border(before: Run, run: Run, gap: &'static str, out: &mut Out) {
+    let end = if before.is_some() { "</i>" } else { "" };
+    match run {
+        _ if before == run => out.text(gap),
+        None => out.fill("$$", &[end, gap]),
+        Some((row, differs)) => {
+            let class = Markup(if differs { " ch" } else { "" });
+            let pieces = [Markup(end), Markup(gap), Digits(row), class];
+            print_html("$$<i class=\"f$$\">", &pieces, out)
+        }
+    }
+}
+
+/// The blanks before a byte of a line: two in its middle.
+fn gap_before(place: usize) -> &'static str {
+    match place {
+        0 => "",
+        8 => "  ",
+        _ => " ",
+    }
+}
+
+/// Prints bytes in hexadecimal digits and as characters, in runs if they are of a table on the page.
+pub(super) fn print_bytes(bytes: &[u8], sheet: Option<&Sheet<'_>>, out: &mut Out) {
+    let mut letters = Out::new(out.allocator());
+    let (mut offset, mut field) = (0u64, 0usize);
+    for line in bytes.chunks(16) {
+        write!(out, "<b>{offset:04x}</b>  ");
+        let mut before: Run = None;
+        for (place, byte) in line.iter().enumerate() {
+            let run = match sheet {
+                Some(sheet) => run_at(sheet, offset, &mut field),
+                None => None,
+            };
+            print_border(before, run, gap_before(place), out);
+            print_border(before, run, "", &mut letters);
+            write!(out, "{byte:02x}");
+            print_escaped(&[*byte], &mut letters);
+            before = run;
+            offset = offset.saturating_add(1);
+        }
+        print_border(before, None, "", out);
+        print_border(before, None, "", &mut letters);
+        for place in line.len()..16 {
+            out.fill("$  ", &[gap_before(place)]);
+        }
+        out.text("  ");
+        out.append(&letters);
+        out.text("\n");
+        letters.clear();
+    }
+}

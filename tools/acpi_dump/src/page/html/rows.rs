@@ -1,0 +1,310 @@
+//! The fields of a table: a row for each, in folds by the structures that they are in.
+
+use super::code::print_code;
+use super::escape::Piece::{Bytes, Decimal, Digits, Hex, Id, Name, Offset, Text, Value};
+use super::escape::{print_html, word_if};
+use super::findings::print_findings_of;
+use super::ids;
+use super::marks::{Change, Mark};
+use super::sheet::{Sheet, Standing};
+use super::values::{print_change, print_digest, print_reference, print_value, structure_of};
+use crate::compare::outline::{BYTES, Item, MALFORMED, Part};
+use acpi_programs::input::entries::header_of;
+use acpi_programs::walk::language::number_at;
+use acpi_programs::walk::out::Out;
+use zacpi::sdt::SdtHeader;
+
+/// From how many structures of one name in a row on they are in a fold.
+const MANY: usize = 9;
+
+/// Up to how many fields and objects the structures of a table begin unfolded.
+const FEW: usize = 48;
+
+/// The length of a header (ACPI 6.5, section 5.2.6).
+const HEADER: u64 = 36;
+
+/// What ends rows of fields that follow each other, and the rows of the header.
+const ROWS_END: &str = "</table>\n";
+
+const HEADER_END: &str = "</table>\n</details>\n";
+
+/// The rows of a table as they are printed.
+struct Rows<'s, 'p, 'o> {
+    sheet: &'s Sheet<'p>,
+    /// All tables on the page.
+    sheets: &'s [Sheet<'p>],
+    out: &'o mut Out,
+    /// The structure that begins next.
+    next: usize,
+    /// The structure whose fields come.
+    open: usize,
+    /// The last structure of the row of structures that is in a fold, or 0.
+    group: usize,
+    /// What ends the rows that have begun: nothing if none have.
+    end: &'static str,
+}
+
+/// Prints the fields of a table, and what only that of the first input has.
+pub(super) fn print_rows<'p>(sheet: &Sheet<'p>, sheets: &[Sheet<'p>], out: &mut Out) {
+    let mut rows = Rows { sheet, sheets, out, next: 1, open: 0, group: 0, end: "" };
+    if let Some(header) = &header_of(sheet.entry) {
+        rows.begin_header(header);
+    }
+    for (place, item) in sheet.side.items.iter().enumerate() {
+        rows.begin_parts(place, item);
+        rows.item(place, item);
+        rows.code(item);
+    }
+    rows.close_to(0);
+    rows.end();
+    rows.gone();
+}
+
+impl Rows<'_, '_, '_> {
+    /// Begins the rows of fields that follow each other, unless they have begun.
+    fn start(&mut self) {
+        if self.end.is_empty() {
+            self.out.text("<table class=\"fl\">");
+            self.end = ROWS_END;
+        }
+    }
+
+    /// Ends the rows that have begun.
+    fn end(&mut self) {
+        self.out.text(self.end);
+        self.end = "";
+    }
+
+    /// Begins the fold of the header, which is open if the table is invalid or something in it is marked.
+    fn begin_header(&mut self, header: &SdtHeader) {
+        let sheet = self.sheet;
+        let marks = sheet.classes(0, HEADER);
+        let is_open = marks.starts_with(" hit") || sheet.entry.status.is_invalid();
+        print_html(
+            "<details class=\"s hd$\"$><summary data-o=\"0\" data-n=\"24\"><span>0000</span> Header <small>$ $</small>\
+             </summary>\n<table class=\"fl\"><thead><tr><th scope=\"col\">Offset<th scope=\"col\">Field\
+             <th scope=\"col\">Value<th scope=\"col\">Meaning<tbody>\n",
+            &[Text(marks), word_if(is_open, " open"), Bytes(&header.oem_id), Bytes(&header.oem_table_id)],
+            self.out,
+        );
+        self.end = HEADER_END;
+    }
+
+    /// Begins the folds of the structures that begin with the item of this number, but of objects only if others are in
+    /// them, and ends those that ended before it.
+    fn begin_parts(&mut self, place: usize, item: &Item) {
+        let sheet = self.sheet;
+        let parts = sheet.side.parts;
+        let mut fold = item.part;
+        for number in self.next..parts.len() {
+            match parts.get(number) {
+                Some(part) if part.first > place => break,
+                Some(part) if part.is_row() => fold = part.parent,
+                Some(part) => {
+                    self.close_to(part.parent);
+                    self.begin(number, part);
+                }
+                None => break,
+            }
+            self.next = number + 1;
+        }
+        self.close_to(fold)
+    }
+
+    /// Begins the fold of a structure, and before it that of a row of structures if it is the first of many.
+    fn begin(&mut self, number: usize, part: &Part) {
+        let sheet = self.sheet;
+        self.end();
+        self.open = number;
+        let fold = sheet.fold(number);
+        if self.group == 0 {
+            self.begin_group(number, part);
+        }
+        let is_short = sheet.side.items.len() <= FEW && self.group == 0;
+        let is_compared = matches!(sheet.standing, Standing::Beside(_));
+        let is_changed = fold.has_changes && !fold.is_added;
+        let is_open = fold.has_findings || is_changed || is_short && !is_compared;
+        print_html(
+            "<details class=\"s$$$\"$><summary data-o=\"$\" data-n=\"$\"><span>$</span> $ <small>$",
+            &[
+                word_if(fold.is_added, " new"),
+                word_if(is_changed, " chg"),
+                word_if(fold.has_findings, " hit"),
+                word_if(is_open, " open"),
+                Digits(part.offset),
+                Digits(part.length),
+                Offset(part.offset),
+                Text(part.name),
+                word_if(fold.is_added, "added: "),
+            ],
+            self.out,
+        );
+        print_digest(sheet.side, number, part, self.out);
+        self.out.text("</small></summary>\n");
+    }
+
+    /// Begins the fold of a row of structures of one name, if these are many from this one on.
+    fn begin_group(&mut self, number: usize, part: &Part) {
+        let sheet = self.sheet;
+        let (mut count, mut last, mut end) = (0usize, number, part.offset);
+        let mut has_changes = false;
+        for place in number..sheet.side.parts.len() {
+            match sheet.side.parts.get(place) {
+                Some(other) if other.parent == part.parent && other.name == part.name && !other.is_row() => {
+                    count = count.saturating_add(1);
+                    last = place;
+                    end = other.offset.saturating_add(other.length);
+                    has_changes |= sheet.fold(place).has_changes;
+                }
+                Some(other) if other.parent >= number => {}
+                _ => break,
+            }
+        }
+        if count < MANY {
+            return;
+        }
+        self.group = last;
+        print_html(
+            "<details class=\"g$\"><summary>$ <b>×$</b> <small>$ to $</small></summary>\n",
+            &[
+                word_if(has_changes, " chg"),
+                Text(part.name),
+                Decimal(count as u64),
+                Hex(part.offset),
+                Hex(end.saturating_sub(1)),
+            ],
+            self.out,
+        )
+    }
+
+    /// Ends the folds of structures up to that of one that they are in.
+    fn close_to(&mut self, part: usize) {
+        let sheet = self.sheet;
+        for _ in 0..self.open {
+            if self.open == part {
+                break;
+            }
+            self.end();
+            self.out.text("</details>\n");
+            if self.open == self.group {
+                self.out.text("</details>\n");
+                self.group = 0;
+            }
+            self.open = match sheet.side.parts.get(self.open) {
+                Some(inner) => inner.parent,
+                None => 0,
+            };
+        }
+    }
+
+    /// Prints a field's row, with its findings.
+    fn item(&mut self, place: usize, item: &Item) {
+        let sheet = self.sheet;
+        if item.offset >= HEADER && self.end == HEADER_END {
+            self.end();
+        }
+        let mark = sheet.mark(place);
+        if mark.row != place {
+            return;
+        }
+        self.start();
+        self.begin_row(item, mark);
+        if item.name == BYTES {
+            let words = "<th scope=\"row\">not decoded<td><td>% bytes\n";
+            let length = self.length(place);
+            self.out.words(words, &[length])
+        } else if let Some((old, was)) = sheet.before(mark) {
+            print_change(old, was, sheet.side, item, self.out)
+        } else if let Some(part) = structure_of(sheet.signature, sheet.side, item) {
+            let link = sheet.link(part.offset);
+            print_reference(sheet.side, item, &part, link, self.out)
+        } else {
+            let target = self.target_of(item);
+            print_value(sheet.side, item, target, self.out)
+        }
+        print_findings_of(sheet.findings, mark.findings, self.out)
+    }
+
+    /// Prints the operations of the object that an item is, if that is a method.
+    fn code(&mut self, item: &Item) {
+        print_code(self.sheet, item, self.out)
+    }
+
+    /// The table that a field has the address of, if it is on the page.
+    fn target_of(&self, item: &Item) -> Option<ids::Id> {
+        let table = self.sheet.entry.bytes;
+        let address = number_at(table, item.offset as usize, item.length as usize);
+        let is_number = self.sheet.side.digits(item).starts_with("0x");
+        if item.length < 4 || address == 0 || !is_number {
+            return None;
+        }
+        for sheet in self.sheets {
+            if !sheet.id.is_first && sheet.entry.place.address() == Some(address) {
+                return Some(sheet.id);
+            }
+        }
+        None
+    }
+
+    /// How many bytes that no field covers are in a row.
+    fn length(&self, row: usize) -> u64 {
+        let sheet = self.sheet;
+        let mut length = 0u64;
+        for number in row..sheet.side.items.len() {
+            match sheet.side.items.get(number) {
+                Some(item) if sheet.mark(number).row == row => {
+                    length = length.saturating_add(item.length);
+                }
+                _ => break,
+            }
+        }
+        length
+    }
+
+    /// Prints what a row begins with: its id, its marks and its offset.
+    fn begin_row(&mut self, item: &Item, mark: Mark) {
+        let sheet = self.sheet;
+        let offset = item.offset;
+        let id = Id(sheet.id, Some(offset));
+        let start = if item.length > 0 { "<tr id=\"$\"" } else { "<tr" };
+        print_html(start, &[id], self.out);
+        if item.name == MALFORMED {
+            return print_html(" class=\"wrong\"><td>$", &[Offset(offset)], self.out);
+        }
+        let change = match mark.change {
+            Change::Same => "",
+            Change::Added(_) => " new",
+            Change::From(_) => " chg",
+        };
+        let found = if mark.findings.0 < mark.findings.1 { sheet.classes(offset, item.length.max(1)) } else { "" };
+        print_html(
+            " class=\"f$$$\"><td><a href=\"#$\">$</a>",
+            &[Digits(offset), Text(change), Text(found), id, Offset(offset)],
+            self.out,
+        )
+    }
+
+    /// Prints the structures and fields that only the table of the first input has.
+    fn gone(&mut self) {
+        let sheet = self.sheet;
+        let Standing::Beside(old) = sheet.standing else {
+            return;
+        };
+        for (part, field) in sheet.marks.gone.iter() {
+            self.start();
+            if let Some(item) = old.item(*field) {
+                print_html(
+                    "<tr class=\"del\"><td>$<th scope=\"row\">$<td><del>$</del><td><div><del>$</del></div>\n",
+                    &[Offset(item.offset), Name(item), Value(old.digits(item)), Text(old.meaning(item))],
+                    self.out,
+                )
+            } else {
+                let mut path = Out::new(self.out.allocator());
+                old.print_path(*part, &mut path);
+                let row = "<tr class=\"del\"><td>$<th scope=\"row\"><del>$</del><td><td>only in the first\n";
+                print_html(row, &[Offset(old.offset(*part)), Bytes(path.since(0))], self.out)
+            }
+        }
+        self.end();
+    }
+}

@@ -1,0 +1,101 @@
+//! The tiles of the drawing: boxes in rows, each of which leads to its bytes.
+
+use super::escape::Piece::{Decimal, Printed, Text};
+use super::escape::{Piece, print_html};
+use super::sheet::Sheet;
+use acpi_programs::rattle::alloc::Global;
+use acpi_programs::walk::out::Out;
+
+/// How wide a tile is, how high a row of boxes is, and how much of that and of a box's width is a gap.
+const WIDTH: u64 = 340;
+
+const HEIGHT: u64 = 22;
+
+const GAP: u64 = 3;
+
+/// A tile as it is drawn: its boxes so far, and where the next one is.
+pub(super) struct Tile {
+    /// How many boxes like the next one are beside each other.
+    pub(super) columns: u64,
+    /// The next box's text, escaped, which is written in it if it fits.
+    pub(super) text: Out,
+    /// The next box's title, escaped, which is shown under the pointer.
+    pub(super) title: Out,
+    boxes: Out,
+    x: u64,
+    y: u64,
+}
+
+impl Tile {
+    /// A tile without boxes.
+    pub(super) fn new(alloc: Global, columns: u64) -> Tile {
+        Tile { columns, text: Out::new(alloc), title: Out::new(alloc), boxes: Out::new(alloc), x: 0, y: 0 }
+    }
+
+    /// Draws a box that leads to a byte of a table, or only its text, beside the one before if it fits there. The marks
+    /// are the classes of findings and changes.
+    pub(super) fn add(&mut self, target: Option<(&Sheet<'_>, u64)>, class: &'static str, marks: &'static str) {
+        let width = WIDTH / self.columns.max(1);
+        if self.x > WIDTH.saturating_sub(width) {
+            self.x = 0;
+            self.y = self.y.saturating_add(HEIGHT);
+        }
+        if let Some((sheet, offset)) = target {
+            self.add_rect(sheet.link(offset), class, marks, width);
+        }
+        self.add_text(width);
+        self.boxes.text(if target.is_some() { "</a>\n" } else { "\n" });
+        self.x = self.x.saturating_add(width);
+        self.text.clear();
+        self.title.clear()
+    }
+
+    /// Draws the box itself, of a width with its gap, as a link that ends after the text.
+    fn add_rect(&mut self, link: Piece<'static>, class: &'static str, marks: &'static str, width: u64) {
+        print_html(
+            "<a class=\"$\" href=\"#$\"><title>$</title>\
+             <rect class=\"$\" x=\"$\" y=\"$\" width=\"$\" height=\"$\"/>",
+            &[
+                Text(marks),
+                link,
+                Printed(&self.title),
+                Text(class),
+                Decimal(self.x),
+                Decimal(self.y),
+                Decimal(width.saturating_sub(GAP)),
+                Decimal(HEIGHT - GAP),
+            ],
+            &mut self.boxes,
+        )
+    }
+
+    /// Draws the text of a box of a width with its gap, if it fits.
+    fn add_text(&mut self, width: u64) {
+        let middle = width.saturating_sub(GAP) / 2;
+        let (class, letter, start) = match self.columns {
+            1 => ("", 0, 6),
+            2..=8 => ("c", 8, middle),
+            _ => ("s c", 7, middle),
+        };
+        if (self.text.length() as u64).saturating_mul(letter) <= width {
+            let place = [
+                Text(class),
+                Decimal(self.x.saturating_add(start)),
+                Decimal(self.y.saturating_add(14)),
+                Printed(&self.text),
+            ];
+            let text = "<text class=\"$\" x=\"$\" y=\"$\">$</text>";
+            print_html(text, &place, &mut self.boxes)
+        }
+    }
+
+    /// Prints the tile after its title.
+    pub(super) fn print(self, out: &mut Out) {
+        let height = Decimal(self.y.saturating_add(HEIGHT));
+        print_html(
+            "</figcaption><svg viewBox=\"0 0 $ $\" role=\"group\">\n$</svg></div></figure>\n",
+            &[Decimal(WIDTH), height, Printed(&self.boxes)],
+            out,
+        )
+    }
+}
