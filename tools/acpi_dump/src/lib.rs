@@ -12,6 +12,7 @@ mod fleet;
 mod json;
 mod page;
 mod summary;
+mod text;
 
 /// The status of acpi_dump, if the words after its name request a fleet.
 pub fn fleet_status(_words: &[&str]) -> Option<u8> {
@@ -23,5 +24,5 @@ pub fn fleet_status(_words: &[&str]) -> Option<u8> {
 
 /// The options, for what completes them.
 pub fn options() -> clap::Command {
-    dump::options::command(acpi_programs::rattle::alloc::Global).map(|command| command.to_command()).unwrap_or_default()
+    dump::options::command()
 }

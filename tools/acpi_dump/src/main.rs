@@ -1,6 +1,5 @@
 //! Shows the ACPI tables of a machine, of files, of acpidump's text or of memory.
 
-use acpi_dump::dump::parser::OptionParser;
 use acpi_dump::dump::run::{dump, refuse_arguments};
 use acpi_programs::cli::borrowed;
 use acpi_programs::cli::storage::HostStorage;
@@ -37,5 +36,5 @@ fn status(rt: &HostRuntime) -> io::Result<u8> {
         return Ok(status);
     }
     let (mut sources, mut storage) = (HostSources::new(rt), HostStorage::new(rt));
-    dump(rt.alloc(), &OptionParser, &arguments, &mut sources, &mut storage, io::writer(rt), rt.stderr())
+    dump(&arguments, &mut sources, &mut storage, io::writer(rt), rt.stderr())
 }

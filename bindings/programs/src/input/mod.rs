@@ -19,7 +19,6 @@ pub mod extract;
 mod flaws;
 mod folder;
 pub mod gather;
-pub mod judgement;
 pub mod kind;
 pub mod machine;
 mod memory;

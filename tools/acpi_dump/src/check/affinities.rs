@@ -4,8 +4,8 @@ use crate::check::findings::Findings;
 use crate::check::machine::Machine;
 use crate::check::numbers::{Kept, Numbers};
 use crate::check::pieces::Pieces;
+use crate::check::rules::rules;
 use crate::check::spans::{Span, overlaps};
-use acpi_programs::rattle::Vec;
 use acpi_programs::walk::share::share_of;
 use zacpi::base::bytes::skip;
 use zacpi::base::entries::split_front;
@@ -14,26 +14,64 @@ use zacpi::numa::Distances;
 use zacpi::numa::srat::{SRAT_GRAMMAR, SratEntry};
 use zacpi::sdt::{Signature, field};
 
-pub(crate) const RULES: &str = "
-srat-no-domain warning ACPI 6.5, section 5.2.16 | An enabled processor of the MADT has no domain
-srat-unknown-processor warning ACPI 6.5, section 5.2.16 | An enabled entry is of a processor that the MADT lacks
-srat-overlap error ACPI 6.5, section 5.2.16.2 | Ranges of memory of two domains overlap \
-    | # is in domain %, and in domain % by the range at #
-srat-empty warning ACPI 6.5, section 5.2.16.2 | A range of memory has no bytes | is %
-srat-past-end error ACPI 6.5, section 5.2.16.2 | A range of memory ends above 2^64 | # bytes from # on end above 2^64
-srat-repeated warning ACPI 6.5, section 5.2.16.2 | Ranges of memory of one domain overlap | # is in the range at # too
-srat-reserved-type note ACPI 6.5, section 5.2.16 | An entry has a reserved type | # is reserved
-slit-no-srat warning ACPI 6.5, section 5.2.17 | There are localities, but no SRAT says what is in them \
-    | the machine has no SRAT
-slit-diagonal error ACPI 6.5, section 5.2.17 | The distance of a locality from itself isn't 10 \
-    | locality % is at % from itself
-slit-reserved-distance error ACPI 6.5, section 5.2.17 | A distance is one of 0 to 9, which are reserved \
-    | locality % is at % from locality %
-slit-asymmetric note ACPI 6.5, section 5.2.17 | Two localities are at different distances from each other \
-    | % from % to %, % from % to %
-slit-too-few warning ACPI 6.5, section 5.2.17 | A domain of the SRAT isn't one of the localities \
-    | domain %, and the SLIT has % localities
-";
+rules! {
+    SRAT_NO_DOMAIN = Warning "srat-no-domain", "ACPI 6.5, section 5.2.16",
+        "An enabled processor of the MADT has no domain",
+        "",
+        "Add an enabled entry for the processor, by its APIC ID or its UID. An OS takes it as of domain 0, and gives \
+         it memory that may be far.";
+    SRAT_UNKNOWN_PROCESSOR = Warning "srat-unknown-processor", "ACPI 6.5, section 5.2.16",
+        "An enabled entry is of a processor that the MADT lacks",
+        "",
+        "Correct the APIC ID or the UID, or clear Enabled (bit 0 of Flags) in the entry. Its domain may have no \
+         processor otherwise.";
+    SRAT_OVERLAP = Error "srat-overlap", "ACPI 6.5, section 5.2.16.2",
+        "Ranges of memory of two domains overlap",
+        "# is in domain %, and in domain % by the range at #",
+        "Correct Base Address and Length, so that each byte is of one domain. Linux uses none of the domains if two \
+         overlap.";
+    SRAT_EMPTY = Warning "srat-empty", "ACPI 6.5, section 5.2.16.2",
+        "A range of memory has no bytes",
+        "is %",
+        "Write the length of the range, or remove the entry.";
+    SRAT_PAST_END = Error "srat-past-end", "ACPI 6.5, section 5.2.16.2",
+        "A range of memory ends above 2^64",
+        "# bytes from # on end above 2^64",
+        "Correct Base Address or Length: their sum is 2^64 at most.";
+    SRAT_REPEATED = Warning "srat-repeated", "ACPI 6.5, section 5.2.16.2",
+        "Ranges of memory of one domain overlap",
+        "# is in the range at # too",
+        "Join the ranges, or shorten one, so that each byte is listed once. Flags of the two may contradict each \
+         other.";
+    SRAT_RESERVED_TYPE = Note "srat-reserved-type", "ACPI 6.5, section 5.2.16",
+        "An entry has a reserved type",
+        "# is reserved",
+        "Write a type that the specification has. An OS skips the entry, and its processor or memory has no domain \
+         then.";
+    SLIT_NO_SRAT = Warning "slit-no-srat", "ACPI 6.5, section 5.2.17",
+        "There are localities, but no SRAT says what is in them",
+        "the machine has no SRAT",
+        "Add an SRAT that says which memory and processors the localities have, or remove the SLIT. Distances alone \
+         tell an OS nothing.";
+    SLIT_DIAGONAL = Error "slit-diagonal", "ACPI 6.5, section 5.2.17",
+        "The distance of a locality from itself isn't 10",
+        "locality % is at % from itself",
+        "Write 10, to which all other distances are relative. Linux ignores a SLIT with another one.";
+    SLIT_RESERVED_DISTANCE = Error "slit-reserved-distance", "ACPI 6.5, section 5.2.17",
+        "A distance is one of 0 to 9, which are reserved",
+        "locality % is at % from locality %",
+        "Write 255 if the one can't be reached from the other, else a distance over 10. Linux ignores a SLIT with a \
+         lower one.";
+    SLIT_ASYMMETRIC = Note "slit-asymmetric", "ACPI 6.5, section 5.2.17",
+        "Two localities are at different distances from each other",
+        "% from % to %, % from % to %",
+        "Write one distance for both ways. If the ways do differ, nothing is wrong.";
+    SLIT_TOO_FEW = Warning "slit-too-few", "ACPI 6.5, section 5.2.17",
+        "A domain of the SRAT isn't one of the localities",
+        "domain %, and the SLIT has % localities",
+        "Set Number of System Localities to one more than the highest domain of the SRAT, and write the distances of \
+         all of them.";
+}
 
 // The lists of numbers that are judged together: of processors those by the ids of their local APICs, and the list
 // after each those by their UIDs.
@@ -65,19 +103,19 @@ pub(crate) fn check_affinities(machine: &Machine<'_>, findings: &mut Findings) {
             && machine.is_whole()
         {
             findings.table = index;
-            findings.add("slit-no-srat", 0, &[]);
+            findings.add(&SLIT_NO_SRAT, 0, &[]);
         }
         return;
     };
     findings.table = index;
-    let mut numbers = Numbers::new(machine.alloc);
+    let mut numbers = Numbers::new();
     add_entries(srat, &mut numbers);
     let madt = machine.first(Signature::MADT);
     let has_processors = match madt {
         Some((_, madt)) => add_processors(madt, &mut numbers),
         None => false,
     };
-    findings.need(numbers.sort());
+    numbers.sort();
     if let Some((_, slit)) = machine.first(Signature::SLIT) {
         check_localities(Distances::over(slit).localities(), &numbers, findings);
     }
@@ -104,27 +142,27 @@ fn add_processors(madt: &[u8], numbers: &mut Numbers) -> bool {
 
 /// Judges the enabled ranges of memory of a SRAT.
 pub(crate) fn check_ranges(srat: &[u8], findings: &mut Findings) {
-    let mut ranges = Vec::new(findings.alloc);
+    let mut ranges = Vec::new();
     for (offset, entry) in Pieces::of(srat, 48, (1, 1)) {
         let kind = field(entry, 0, 1);
         // Type 7 is a RISC-V hart's.
         if kind > 7 {
-            findings.add("srat-reserved-type", offset, &[kind]);
+            findings.add(&SRAT_RESERVED_TYPE, offset, &[kind]);
         }
         if kind == 1
             && let Some(share) = share_of(srat, entry)
             && let Some(range) = range_of(offset, entry, share.domain as u64, findings)
         {
-            findings.need(ranges.push(range).is_ok());
+            ranges.push(range);
         }
     }
-    for (before, range) in overlaps(&mut ranges, findings) {
+    for (before, range) in overlaps(&mut ranges) {
         let (first, place) = (range.first, before.offset as u64);
         if range.owner == before.owner {
-            findings.add("srat-repeated", range.offset, &[first, place]);
+            findings.add(&SRAT_REPEATED, range.offset, &[first, place]);
         } else {
             let numbers = &[first, range.owner, before.owner, place];
-            findings.add("srat-overlap", range.offset, numbers);
+            findings.add(&SRAT_OVERLAP, range.offset, numbers);
         }
     }
 }
@@ -135,11 +173,11 @@ fn range_of(offset: usize, entry: &[u8], domain: u64, findings: &mut Findings) -
     let (base, length) = (field(entry, 8, 8), field(entry, 16, 8)); // Base Address, Length
     let at = offset.saturating_add(16);
     let Some(more) = length.checked_sub(1) else {
-        findings.add("srat-empty", at, &[length]);
+        findings.add(&SRAT_EMPTY, at, &[length]);
         return None;
     };
     if base.checked_add(more).is_none() {
-        findings.add("srat-past-end", at, &[length, base]);
+        findings.add(&SRAT_PAST_END, at, &[length, base]);
     }
     Some(Span::of(base, more, offset.saturating_add(8), domain))
 }
@@ -178,16 +216,15 @@ fn check_processors(srat: usize, madt: usize, numbers: &Numbers, findings: &mut 
     for (list, number, offset) in numbers.all.iter() {
         let (by_uid, number) = (*list % 2, *number);
         let (table, other, id, why) = match *list - by_uid {
-            PLACED => (srat, LISTED, "srat-unknown-processor", "isn't in the MADT"),
-            ENABLED => (madt, PLACED, "srat-no-domain", "has no domain in the SRAT"),
+            PLACED => (srat, LISTED, &SRAT_UNKNOWN_PROCESSOR, "isn't in the MADT"),
+            ENABLED => (madt, PLACED, &SRAT_NO_DOMAIN, "has no domain in the SRAT"),
             _ => continue,
         };
         if !numbers.has(other + by_uid, number) {
             let what = if by_uid == 0 { "APIC ID" } else { "UID" };
-            let start = findings.text.length();
             write!(findings.text, "the processor with the {what} {number} {why}");
             findings.table = table;
-            findings.end(id, *offset, start);
+            findings.end(id, *offset);
         }
     }
 }
@@ -197,7 +234,7 @@ fn check_localities(count: u64, numbers: &Numbers, findings: &mut Findings) {
     let mut before = None;
     for (list, domain, offset) in numbers.all.iter() {
         if *list == DOMAINS && *domain >= count && before != Some(*domain) {
-            findings.add("slit-too-few", *offset, &[*domain, count]);
+            findings.add(&SLIT_TOO_FEW, *offset, &[*domain, count]);
             before = Some(*domain);
         }
     }
@@ -214,7 +251,7 @@ pub(crate) fn check_distances(slit: &[u8], findings: &mut Findings) {
         let row = count.saturating_mul(from).saturating_add(44);
         if own != 10 {
             let at = row.saturating_add(from) as usize;
-            findings.add("slit-diagonal", at, &[from, own as u64]);
+            findings.add(&SLIT_DIAGONAL, at, &[from, own as u64]);
         }
         let (mut is_low, mut is_other) = (false, false);
         for to in 0..count {
@@ -223,7 +260,7 @@ pub(crate) fn check_distances(slit: &[u8], findings: &mut Findings) {
             };
             let (at, distance) = (row.saturating_add(to) as usize, distance as u64);
             if distance < 10 && from != to && !is_low {
-                findings.add("slit-reserved-distance", at, &[to, distance, from]);
+                findings.add(&SLIT_RESERVED_DISTANCE, at, &[to, distance, from]);
                 is_low = true;
             }
             if to < from
@@ -232,7 +269,7 @@ pub(crate) fn check_distances(slit: &[u8], findings: &mut Findings) {
                 && back as u64 != distance
             {
                 let numbers = &[distance, from, to, back as u64, to, from];
-                findings.add("slit-asymmetric", at, numbers);
+                findings.add(&SLIT_ASYMMETRIC, at, numbers);
                 is_other = true;
             }
         }

@@ -2,15 +2,26 @@
 
 use crate::check::findings::Findings;
 use crate::check::machine::Machine;
+use crate::check::rules::rules;
 use acpi_programs::input::entries::{Entry, Place};
 use zacpi::sdt::{Signature, field};
 
-pub(crate) const RULES: &str = "
-facs-alignment warning ACPI 6.5, section 5.2.10 | The FACS isn't at a multiple of 64 | is at #
-facs-length error ACPI 6.5, section 5.2.10 | The Length of the FACS is under 64 | is %
-facs-version note ACPI 6.5, section 5.2.10 | The Version of the FACS isn't that of the FADT's revision \
-    | is %, should be % beside a FADT of revision %
-";
+rules! {
+    FACS_ALIGNMENT = Warning "facs-alignment", "ACPI 6.5, section 5.2.10",
+        "The FACS isn't at a multiple of 64",
+        "is at #",
+        "Allocate the FACS at a multiple of 64 bytes, in memory that the OS leaves alone (ACPI NVS).";
+    FACS_LENGTH = Error "facs-length", "ACPI 6.5, section 5.2.10",
+        "The Length of the FACS is under 64",
+        "is %",
+        "Set Length to 64 or more, and have as many bytes. An OS may refuse a shorter FACS, and has neither Global \
+         Lock nor waking vector then.";
+    FACS_VERSION = Note "facs-version", "ACPI 6.5, section 5.2.10",
+        "The Version of the FACS isn't that of the FADT's revision",
+        "is %, should be % beside a FADT of revision %",
+        "Set Version to the one that the message names. An OS tells by it whether X_Firmware_Waking_Vector and the \
+         flags of later versions are there.";
+}
 
 /// Judges a FACS, beside the first FADT.
 pub(crate) fn check_facs(machine: &Machine<'_>, entry: &Entry<'_>, findings: &mut Findings) {
@@ -20,16 +31,16 @@ pub(crate) fn check_facs(machine: &Machine<'_>, entry: &Entry<'_>, findings: &mu
     if let Place::Address(address) = entry.place
         && address % 64 != 0
     {
-        findings.add("facs-alignment", 0, &[address]);
+        findings.add(&FACS_ALIGNMENT, 0, &[address]);
     }
     let (length, version) = (field(entry.bytes, 4, 4), field(entry.bytes, 32, 1));
     if length < 64 {
-        findings.add("facs-length", 4, &[length]);
+        findings.add(&FACS_LENGTH, 4, &[length]);
     } else if let Some((_, fadt)) = machine.first(Signature::FADT) {
         let revision = field(fadt, 8, 1);
         let wanted = revision.max(2).min(4) - 2;
         if version != wanted {
-            findings.add("facs-version", 32, &[version, wanted, revision]);
+            findings.add(&FACS_VERSION, 32, &[version, wanted, revision]);
         }
     }
 }

@@ -1,118 +1,86 @@
 //! What the rules find.
 
+use crate::text::text_of;
 use crate::check::numbers::Numbers;
-use crate::check::rules::rules;
+use crate::check::rules::{Finding, Rule};
 use acpi_programs::input::entries::{Entry, own_signature};
-use acpi_programs::input::judgement::{Finding, Judgement, Rule};
-use acpi_programs::rattle::Vec;
-use acpi_programs::rattle::alloc::{AllocError, Global};
+use acpi_programs::rattle::alloc::Global;
 use acpi_programs::walk::out::Out;
 use acpi_programs::walk::walk::{Field, Show, walk_table};
 use core::fmt::Display;
 
-/// What the rules find. It gets nothing more after memory for a finding was refused.
+/// What the rules find.
 pub(crate) struct Findings {
-    pub(crate) alloc: Global,
     /// The number among the entries of the table that is judged.
     pub(crate) table: usize,
-    /// The messages, one after the other.
+    /// The message of the next finding, as far as it is printed.
     pub(crate) text: Out,
-    rules: Vec<Rule>,
     list: Vec<Finding>,
-    is_refused: bool,
 }
 
 impl Findings {
     /// Nothing is found.
-    pub(crate) fn new(alloc: Global) -> Result<Findings, AllocError> {
-        Ok(Findings {
-            alloc,
-            table: 0,
-            text: Out::new(alloc),
-            rules: rules(alloc)?,
-            list: Vec::new(alloc),
-            is_refused: false,
-        })
+    pub(crate) fn new() -> Findings {
+        Findings { table: 0, text: Out::new(Global), list: Vec::new() }
     }
 
-    /// The rule of an id.
-    fn rule(&self, id: &str) -> Option<Rule> {
-        self.rules.iter().find(|rule| rule.id == id).copied()
+    /// Adds what a rule finds at an offset of the table. Its message is what is printed.
+    pub(crate) fn end(&mut self, rule: &'static Rule, offset: usize) {
+        let message = text_of(&self.text).to_string();
+        self.text.clear();
+        self.list.push(Finding { rule, table: self.table, offset, field: "", message });
     }
 
-    /// Adds what the rule of an id finds at an offset of the table. Its message is what was printed from a place of the
-    /// text on.
-    pub(crate) fn end(&mut self, id: &str, offset: usize, start: usize) {
-        if let Some(rule) = self.rule(id) {
-            let finding = Finding { rule, table: self.table, offset, field: "", start, end: self.text.length() };
-            self.is_refused |= self.list.push(finding).is_err();
-        }
-    }
-
-    /// Adds what the rule of an id finds there: words with numbers, as `Out::words` prints them.
-    pub(crate) fn add_words(&mut self, id: &str, offset: usize, words: &str, numbers: &[u64]) {
-        let start = self.text.length();
+    /// Adds what a rule finds there: words with numbers, as `Out::words` prints them.
+    pub(crate) fn add_words(&mut self, rule: &'static Rule, offset: usize, words: &str, numbers: &[u64]) {
         self.text.words(words, numbers);
-        self.end(id, offset, start);
+        self.end(rule, offset);
     }
 
-    /// Adds what the rule of an id finds there: its message with numbers.
-    pub(crate) fn add(&mut self, id: &str, offset: usize, numbers: &[u64]) {
-        if let Some(rule) = self.rule(id) {
-            self.add_words(id, offset, rule.message, numbers);
-        }
+    /// Adds what a rule finds there: its message with numbers.
+    pub(crate) fn add(&mut self, rule: &'static Rule, offset: usize, numbers: &[u64]) {
+        self.add_words(rule, offset, rule.message, numbers);
     }
 
-    /// Adds what the rule of an id finds there: a message that a value is.
-    pub(crate) fn add_value<D: Display>(&mut self, id: &str, offset: usize, message: &D) {
-        let start = self.text.length();
+    /// Adds what a rule finds there: a message that a value is.
+    pub(crate) fn add_value<D: Display>(&mut self, rule: &'static Rule, offset: usize, message: &D) {
         self.text.value(message);
-        self.end(id, offset, start);
+        self.end(rule, offset);
     }
 
     /// Adds, for each number that came before in its list, what the rule of the list finds there: its
-    /// message with the number and where else it is. The ids are of the rules of the first lists: others have none.
-    pub(crate) fn add_repeated(&mut self, ids: &[&str], numbers: &mut Numbers) {
-        self.is_refused |= !numbers.sort();
+    /// message with the number and where else it is. The rules are those of the first lists: others have none.
+    pub(crate) fn add_repeated(&mut self, rules: &[&'static Rule], numbers: &mut Numbers) {
+        numbers.sort();
         let mut before = None;
         for (list, number, offset) in numbers.all.iter() {
             if let Some((same, repeated, other)) = before
                 && same == *list
                 && repeated == *number
-                && let Some(id) = ids.get(*list as usize)
+                && let Some(rule) = rules.get(*list as usize)
             {
-                self.add(*id, *offset, &[repeated, other as u64]);
+                self.add(rule, *offset, &[repeated, other as u64]);
             }
             before = Some((*list, *number, *offset));
         }
     }
 
-    /// Remembers whether memory sufficed for something.
-    pub(crate) fn need(&mut self, sufficed: bool) {
-        self.is_refused |= !sufficed;
-    }
-
     /// All that was found, in the order of the tables, then by offset, each with the name of its field.
-    ///
-    /// Fails if memory runs out, or did before.
-    pub(crate) fn in_order(self, entries: &[Entry<'_>]) -> Result<Judgement, AllocError> {
-        let Findings { mut list, text, is_refused, .. } = self;
-        list.sort_by_key(|it| (it.table, it.offset))?;
-        if is_refused || text.printed().is_none() {
-            return Err(AllocError);
-        }
+    pub(crate) fn in_order(self, entries: &[Entry<'_>]) -> Vec<Finding> {
+        let Findings { mut list, .. } = self;
+        list.sort_by_key(|it| (it.table, it.offset));
         let mut first = 0usize;
         for (index, entry) in entries.iter().enumerate() {
             let end = list.partition_point(|it| it.table <= index);
             if first < end
-                && let Some(list) = list.as_mut_slice().get_mut(first..end)
+                && let Some(list) = list.get_mut(first..end)
             {
                 let mut names = Names { list, next: 0 };
                 walk_table(own_signature(entry.bytes), entry.bytes, &mut names);
             }
             first = end;
         }
-        Ok(Judgement { list, text })
+        list
     }
 }
 

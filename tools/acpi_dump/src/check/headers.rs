@@ -2,6 +2,7 @@
 
 use crate::check::devices::register_at;
 use crate::check::findings::Findings;
+use crate::check::rules::rules;
 use acpi_programs::input::entries::{Entry, own_signature};
 use acpi_programs::input::status::Status;
 use acpi_programs::rattle::Pieces;
@@ -12,22 +13,57 @@ use acpi_programs::walk::walk::{Field, Show, walk_table};
 use zacpi::AcpiError;
 use zacpi::sdt::field;
 
-pub(crate) const RULES: &str = "
-header-sum error ACPI 6.5, section 5.2.6 | The bytes of a table don't sum to 0
-header-refused error ACPI 6.5, section 5.2.6 | A table has no valid header, or its bytes aren't all there
-header-bytes-after warning ACPI 6.5, section 5.2.6 | Bytes come after those that the Length counts \
-    | is %, and % more come
-table-malformed error ACPI 6.5, section 5.2 | A structure or a list of a table isn't as its type and its length want it
-header-short error ACPI 6.5, section 5.2.6 | The Length ends in the fields of the table's revision \
-    | is %, and the fields of revision % take %
-header-length warning ACPI 6.5, section 5.2.6 | The Length isn't one that the table's revision has
-header-revision note ACPI 6.5, section 5.2.6 | No specification has the table's Revision \
-    | no revision % is known
-header-letters note ACPI 6.5, section 5.2.6 | OEMID, OEM Table ID or Creator ID has letters that aren't printable \
-    | letters that aren't printable
-header-reserved note ACPI 6.5, section 5.2.1 | A reserved field isn't 0 | isn't 0
-field-code note ACPI 6.5, section 5.2.1 | A code or a flag is one that no specification names | # is reserved
-";
+rules! {
+    HEADER_SUM = Error "header-sum", "ACPI 6.5, section 5.2.6",
+        "The bytes of a table don't sum to 0",
+        "",
+        "Compute the checksum after the last change to the table, so that its bytes, as many as Length, sum to 0 \
+         modulo 256. Some loaders refuse a table with another sum.";
+    HEADER_REFUSED = Error "header-refused", "ACPI 6.5, section 5.2.6",
+        "A table has no valid header, or its bytes aren't all there",
+        "",
+        "Correct the signature, the Length (36 at least) and the address by which the table is listed. If the dump \
+         ends before the table does, take all of the table's memory.";
+    HEADER_BYTES_AFTER = Warning "header-bytes-after", "ACPI 6.5, section 5.2.6",
+        "Bytes come after those that the Length counts",
+        "is %, and % more come",
+        "If the bytes belong to the table, count them in Length and correct the checksum. If not, cut the file after \
+         Length bytes.";
+    TABLE_MALFORMED = Error "table-malformed", "ACPI 6.5, section 5.2",
+        "A structure or a list of a table isn't as its type and its length want it",
+        "",
+        "Correct the length or the count at this offset, so that the structure ends where its contents do, and within \
+         the table. An OS stops here, and misses what follows.";
+    HEADER_SHORT = Error "header-short", "ACPI 6.5, section 5.2.6",
+        "The Length ends in the fields of the table's revision",
+        "is %, and the fields of revision % take %",
+        "Write all fields that this revision has, and count them in Length, or lower Revision to one whose fields are \
+         there. An OS takes those past the end as 0, or refuses the table.";
+    HEADER_LENGTH = Warning "header-length", "ACPI 6.5, section 5.2.6",
+        "The Length isn't one that the table's revision has",
+        "",
+        "Set Length to the size that the specification has for this Revision, or correct Revision. Some OSs tell by \
+         the one which fields are there, others by the other.";
+    HEADER_REVISION = Note "header-revision", "ACPI 6.5, section 5.2.6",
+        "No specification has the table's Revision",
+        "no revision % is known",
+        "Set Revision to that of the specification by which the fields are written. If that is newer than these \
+         rules, nothing is wrong.";
+    HEADER_LETTERS = Note "header-letters", "ACPI 6.5, section 5.2.6",
+        "OEMID, OEM Table ID or Creator ID has letters that aren't printable",
+        "letters that aren't printable",
+        "Write printable ASCII. An OS compares these ids letter by letter, where it corrects the firmware of certain \
+         machines.";
+    HEADER_RESERVED = Note "header-reserved", "ACPI 6.5, section 5.2.1",
+        "A reserved field isn't 0",
+        "isn't 0",
+        "Write 0. A later specification may give these bits a meaning, and an OS would act on it.";
+    FIELD_CODE = Note "field-code", "ACPI 6.5, section 5.2.1",
+        "A code or a flag is one that no specification names",
+        "# is reserved",
+        "Write a code that the specification has for this field, and 0 to reserved flags. If the code is of a \
+         specification newer than these rules, nothing is wrong.";
+}
 
 /// The forms of tables: the signature, the revision or the first and the last one that have it, and the length: the
 /// least one and, after `+`, steps from that on, or after `/` further ones, as FADTs of later revisions may have the
@@ -116,19 +152,18 @@ fn check_status(entry: &Entry<'_>, findings: &mut Findings) {
     }
     let offset = match entry.status {
         Status::WrongSum { is, should, .. } => {
-            let start = findings.text.length();
             write!(findings.text, "is 0x{is:02x}, should be 0x{should:02x}");
-            return findings.end("header-sum", 9, start);
+            return findings.end(&HEADER_SUM, 9);
         }
         Status::Longer(over) => {
             let numbers = [field(entry.bytes, 4, 4), over as u64];
-            return findings.add("header-bytes-after", 4, &numbers);
+            return findings.add(&HEADER_BYTES_AFTER, 4, &numbers);
         }
         Status::Cut { .. } | Status::Refused(AcpiError::SdtInvalidLength(_)) => 4,
         Status::Refused(_) => 0,
         _ => return,
     };
-    findings.add_value("header-refused", offset, &entry.status);
+    findings.add_value(&HEADER_REFUSED, offset, &entry.status);
 }
 
 /// The length of the form that tables of a name have in a revision, if there is one, and whether forms of the name are
@@ -153,14 +188,14 @@ fn form_of(name: &str, revision: u64) -> (Option<&'static str>, bool) {
 fn check_form(table: &[u8], name: &str, findings: &mut Findings) -> bool {
     for (offset, end) in [(10usize, 16usize), (16, 24), (28, 32)].iter() {
         if !is_printable(table.get(*offset..*end).unwrap_or(&[])) {
-            findings.add("header-letters", *offset, &[]);
+            findings.add(&HEADER_LETTERS, *offset, &[]);
         }
     }
     let revision = field(table, 8, 1);
     match form_of(name, revision) {
         (Some(length), _) => check_length(table, length, findings),
         (None, true) => {
-            findings.add("header-revision", 8, &[revision]);
+            findings.add(&HEADER_REVISION, 8, &[revision]);
             return false;
         }
         _ => {}
@@ -176,15 +211,14 @@ fn check_length(table: &[u8], form: &str, findings: &mut Findings) {
         return;
     }
     if length < least {
-        return findings.add("header-short", 4, &[length, revision, least]);
+        return findings.add(&HEADER_SHORT, 4, &[length, revision, least]);
     }
     let is_right = form.pieces('/').any(|part| has_length(length, part));
     if !is_right {
-        let start = findings.text.length();
         let numbers = [length, revision];
         findings.text.words("is %, and for revision % ", &numbers);
         findings.text.text(form);
-        findings.end("header-length", 4, start);
+        findings.end(&HEADER_LENGTH, 4);
     }
 }
 
@@ -231,9 +265,8 @@ struct Fields<'f> {
 impl Show for Fields<'_> {
     fn malformed(&mut self, offset: u64, fault: Fault) {
         if self.is_whole {
-            let start = self.findings.text.length();
             fault.print(offset, &mut self.findings.text);
-            self.findings.end("table-malformed", offset as usize, start);
+            self.findings.end(&TABLE_MALFORMED, offset as usize);
         }
     }
 
@@ -242,7 +275,7 @@ impl Show for Fields<'_> {
         if self.has_codes
             && let Some(number) = unnamed_in(shown)
         {
-            self.findings.add("field-code", offset, &[number]);
+            self.findings.add(&FIELD_CODE, offset, &[number]);
         }
         if !self.is_known || shown.label.name != "Reserved" {
             return;
@@ -252,7 +285,7 @@ impl Show for Fields<'_> {
         let is_one = matches!(shown.bytes, [1] | [1, 0, 0, 0]);
         let is_zero = shown.bytes.iter().all(|byte| *byte == 0);
         if !is_zero && !(is_one && may_be_one) {
-            self.findings.add("header-reserved", offset, &[]);
+            self.findings.add(&HEADER_RESERVED, offset, &[]);
         }
     }
 }

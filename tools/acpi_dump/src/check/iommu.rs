@@ -3,30 +3,56 @@
 
 use crate::check::findings::Findings;
 use crate::check::pieces::Pieces;
+use crate::check::rules::{Rule, rules};
 use crate::check::spans::{Span, overlaps};
-use acpi_programs::rattle::Vec;
 use zacpi::base::bytes::skip;
 use zacpi::iommu::dmar::{DmarFields, DmarStructure, DmarStructureIter, Rmrr};
 use zacpi::iommu::ivrs::IvrsBlockIter;
 use zacpi::sdt::field;
 
-pub(crate) const RULES: &str = "
-rmrr-pages error Intel VT-d 4.0, section 8.4 | Reserved memory doesn't begin and end at a page \
-    | # to # aren't pages of 0x1000
-rmrr-limit error Intel VT-d 4.0, section 8.4 | The last byte of reserved memory is before its first \
-    | # is before the base, #
-drhd-all error Intel VT-d 4.0, section 8.3 | A second unit of a segment has INCLUDE_PCI_ALL \
-    | a unit of segment % before it has INCLUDE_PCI_ALL
-drhd-last warning Intel VT-d 4.0, section 8.3 | A unit comes after that of its segment with INCLUDE_PCI_ALL \
-    | a unit of segment % before it has INCLUDE_PCI_ALL
-scope-path error Intel VT-d 4.0, section 8.3.1 | A device scope has no hop | the scope of type % has no hop
-ivhd-range error AMD IOMMU 3.08, section 5.2 | The start of a range of devices isn't followed by its end \
-    | no end follows the start: device #
-ivhd-end error AMD IOMMU 3.08, section 5.2 | The end of a range of devices follows no start \
-    | it ends no range: device #
-iort-mapping-end error Arm DEN0049, IORT | IDs are mapped from or to some above 32 bits | # IDs from # on go past 2^32
-iort-mapping-overlap warning Arm DEN0049, IORT | Two ID mappings of a node have one ID | ID # is also mapped at #
-";
+rules! {
+    RMRR_PAGES = Error "rmrr-pages", "Intel VT-d 4.0, section 8.4",
+        "Reserved memory doesn't begin and end at a page",
+        "# to # aren't pages of 0x1000",
+        "Write a base that is a multiple of 4 KiB, and as the limit the last byte of a page, whose low 12 bits are \
+         all 1.";
+    RMRR_LIMIT = Error "rmrr-limit", "Intel VT-d 4.0, section 8.4",
+        "The last byte of reserved memory is before its first",
+        "# is before the base, #",
+        "Write as the limit the address of the last byte, which is the base plus the size minus 1. No device may use \
+         the memory otherwise.";
+    DRHD_ALL = Error "drhd-all", "Intel VT-d 4.0, section 8.3",
+        "A second unit of a segment has INCLUDE_PCI_ALL",
+        "a unit of segment % before it has INCLUDE_PCI_ALL",
+        "Keep INCLUDE_PCI_ALL in one unit of each segment, and list the devices of the others in device scopes.";
+    DRHD_LAST = Warning "drhd-last", "Intel VT-d 4.0, section 8.3",
+        "A unit comes after that of its segment with INCLUDE_PCI_ALL",
+        "a unit of segment % before it has INCLUDE_PCI_ALL",
+        "Move the unit with INCLUDE_PCI_ALL after all other units of its segment. An OS that reads in order gives it \
+         their devices.";
+    SCOPE_PATH = Error "scope-path", "Intel VT-d 4.0, section 8.3.1",
+        "A device scope has no hop",
+        "the scope of type % has no hop",
+        "Write at least one device and function to Path, and a Length of 6 plus 2 for each of them.";
+    IVHD_RANGE = Error "ivhd-range", "AMD IOMMU 3.08, section 5.2",
+        "The start of a range of devices isn't followed by its end",
+        "no end follows the start: device #",
+        "Write the end of the range (type 4), with its last DeviceID, right after its start (type 3, 0x43 or 0x47).";
+    IVHD_END = Error "ivhd-end", "AMD IOMMU 3.08, section 5.2",
+        "The end of a range of devices follows no start",
+        "it ends no range: device #",
+        "Write the start of the range (type 3, 0x43 or 0x47) before its end, or remove the end. One device alone is a \
+         select entry (type 2).";
+    IORT_MAPPING_END = Error "iort-mapping-end", "Arm DEN0049, IORT",
+        "IDs are mapped from or to some above 32 bits",
+        "# IDs from # on go past 2^32",
+        "Correct Input base, Output base or Number of IDs, which is how many IDs there are minus 1.";
+    IORT_MAPPING_OVERLAP = Warning "iort-mapping-overlap", "Arm DEN0049, IORT",
+        "Two ID mappings of a node have one ID",
+        "ID # is also mapped at #",
+        "Map each ID once. Number of IDs is how many there are minus 1: ranges that have one ID in common mostly lack \
+         the minus.";
+}
 
 /// Judges the structures of a DMAR.
 pub(crate) fn check_dmar(dmar: &[u8], findings: &mut Findings) {
@@ -44,7 +70,7 @@ pub(crate) fn check_dmar(dmar: &[u8], findings: &mut Findings) {
                     segments[place] |= bit;
                 }
                 if has_come {
-                    let id = if is_all { "drhd-all" } else { "drhd-last" };
+                    let id = if is_all { &DRHD_ALL } else { &DRHD_LAST };
                     findings.add(id, offset.saturating_add(4), &[unit.segment as u64]);
                 }
             }
@@ -59,9 +85,9 @@ pub(crate) fn check_dmar(dmar: &[u8], findings: &mut Findings) {
 fn check_reserved(offset: usize, range: Rmrr, findings: &mut Findings) {
     let (base, limit) = (range.base, range.limit);
     if limit < base {
-        findings.add("rmrr-limit", offset.saturating_add(16), &[limit, base]);
+        findings.add(&RMRR_LIMIT, offset.saturating_add(16), &[limit, base]);
     } else if base & 0xfff != 0 || limit & 0xfff != 0xfff {
-        findings.add("rmrr-pages", offset.saturating_add(8), &[base, limit]);
+        findings.add(&RMRR_PAGES, offset.saturating_add(8), &[base, limit]);
     }
 }
 
@@ -71,7 +97,7 @@ fn check_scopes(end: usize, structure: DmarStructure<'_>, findings: &mut Finding
     let mut offset = end.saturating_sub(scopes.rest().len());
     while let Some(scope) = scopes.next() {
         if scope.hops().next().is_none() {
-            findings.add("scope-path", offset.saturating_add(1), &[scope.kind() as u64]);
+            findings.add(&SCOPE_PATH, offset.saturating_add(1), &[scope.kind() as u64]);
         }
         offset = end.saturating_sub(scopes.rest().len());
     }
@@ -79,8 +105,8 @@ fn check_scopes(end: usize, structure: DmarStructure<'_>, findings: &mut Finding
 
 /// The types of entries that begin or end a range, with their lengths and rules: Start of Range, End of Range, Alias
 /// Start of Range, Extended Start of Range.
-const ENDS: [(u64, usize, &str); 4] =
-    [(3, 4, "ivhd-range"), (4, 4, "ivhd-end"), (0x43, 8, "ivhd-range"), (0x47, 8, "ivhd-range")];
+const ENDS: [(u64, usize, &Rule); 4] =
+    [(3, 4, &IVHD_RANGE), (4, 4, &IVHD_END), (0x43, 8, &IVHD_RANGE), (0x47, 8, &IVHD_RANGE)];
 
 /// Judges the blocks of an IVRS: its entries end where a range has no end, or an end no start.
 pub(crate) fn check_ivrs(ivrs: &[u8], findings: &mut Findings) {
@@ -91,9 +117,9 @@ pub(crate) fn check_ivrs(ivrs: &[u8], findings: &mut Findings) {
         let rest = entries.rest();
         let left = blocks.rest().len().saturating_add(rest.len());
         let offset = ivrs.len().saturating_sub(left);
-        for (kind, length, id) in &ENDS {
-            if field(rest, 0, 1) == *kind && rest.len() >= *length {
-                findings.add(*id, offset, &[field(rest, 1, 2)]); // DeviceID
+        for (kind, length, rule) in ENDS {
+            if field(rest, 0, 1) == kind && rest.len() >= length {
+                findings.add(rule, offset, &[field(rest, 1, 2)]); // DeviceID
             }
         }
     }
@@ -103,20 +129,20 @@ pub(crate) fn check_ivrs(ivrs: &[u8], findings: &mut Findings) {
 pub(crate) fn check_iort(iort: &[u8], findings: &mut Findings) {
     let start = field(iort, 40, 4) as usize; // Offset to Array of IORT Nodes
     for (offset, node) in Pieces::of(iort, start, (1, 2)) {
-        let mut mapped = Vec::new(findings.alloc);
+        let mut mapped = Vec::new();
         let (count, first) = (field(node, 8, 4) as usize, field(node, 12, 4) as usize); // ID mappings
         let mut at = offset.saturating_add(first);
         for mapping in skip(node, first).chunks(20).take(count) {
             if mapping.len() == 20
                 && let Some(span) = ids_of(at, node, mapping, findings)
             {
-                findings.need(mapped.push(span).is_ok());
+                mapped.push(span);
             }
             at = at.saturating_add(20);
         }
-        for (before, span) in overlaps(&mut mapped, findings) {
+        for (before, span) in overlaps(&mut mapped) {
             let numbers = &[span.first, before.offset as u64];
-            findings.add("iort-mapping-overlap", span.offset, numbers);
+            findings.add(&IORT_MAPPING_OVERLAP, span.offset, numbers);
         }
     }
 }
@@ -141,6 +167,6 @@ fn ids_of(offset: usize, node: &[u8], mapping: &[u8], findings: &mut Findings) -
 fn check_ids(offset: usize, first: u64, more: u64, findings: &mut Findings) {
     if first.saturating_add(more) >> 32 != 0 {
         let count = more.saturating_add(1);
-        findings.add("iort-mapping-end", offset, &[count, first]);
+        findings.add(&IORT_MAPPING_END, offset, &[count, first]);
     }
 }

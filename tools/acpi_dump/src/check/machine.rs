@@ -1,13 +1,11 @@
 //! The tables that are judged together.
 
 use acpi_programs::input::entries::{Entry, own_signature};
-use acpi_programs::rattle::alloc::Global;
 use zacpi::sdt::{Signature, field};
 
 /// The tables of an input, and what leads to them.
 #[derive(Clone, Copy)]
 pub struct Machine<'a> {
-    pub alloc: Global,
     pub entries: &'a [Entry<'a>],
     /// The RSDP that leads to the root table, or no bytes if none is known.
     pub rsdp: &'a [u8],

@@ -5,35 +5,49 @@ use crate::check::findings::Findings;
 use crate::check::machine::Machine;
 use crate::check::numbers::{Kept, Numbers};
 use crate::check::pieces::Pieces;
-use acpi_programs::rattle::vec;
+use crate::check::rules::rules;
 use zacpi::sdt::{Signature, field};
 
-pub(crate) const RULES: &str = "
-pptt-offset error ACPI 6.5, section 5.2.30 | An offset isn't that of a structure of its type \
-    | no structure of its type begins at #
-pptt-cycle error ACPI 6.5, section 5.2.30 | Parents or levels of caches lead back to where they began \
-    | it leads back to the structure at #
-pptt-processor-nowhere warning ACPI 6.5, section 5.2.30.1 | A processor has a UID that the MADT lacks \
-    | no processor of the MADT has UID %
-pcct-length error ACPI 6.5, chapter 14 | A channel's shared memory has no bytes | is 0
-tpm2-log error TCG ACPI Specification 1.2 | The log has a length, and is at address 0 | is #, and the log has bytes
-";
+rules! {
+    PPTT_OFFSET = Error "pptt-offset", "ACPI 6.5, section 5.2.30",
+        "An offset isn't that of a structure of its type",
+        "no structure of its type begins at #",
+        "Write the offset of the structure from the first byte of the table. In Parent and Next Level of Cache 0 \
+         stands for none.";
+    PPTT_CYCLE = Error "pptt-cycle", "ACPI 6.5, section 5.2.30",
+        "Parents or levels of caches lead back to where they began",
+        "it leads back to the structure at #",
+        "Let Parent lead towards the package, and Next Level of Cache towards memory, and end both with 0. An OS that \
+         follows them may hang.";
+    PPTT_PROCESSOR_NOWHERE = Warning "pptt-processor-nowhere", "ACPI 6.5, section 5.2.30.1",
+        "A processor has a UID that the MADT lacks",
+        "no processor of the MADT has UID %",
+        "Write the UID of the processor's entry in the MADT, or clear ACPI Processor ID valid (bit 1 of Flags). An OS \
+         finds no caches for it otherwise.";
+    PCCT_LENGTH = Error "pcct-length", "ACPI 6.5, chapter 14",
+        "A channel's shared memory has no bytes",
+        "is 0",
+        "Write the size of the shared memory in bytes, which has the channel's header and room for its data. An OS \
+         uses no channel without it.";
+    TPM2_LOG = Error "tpm2-log", "TCG ACPI Specification 1.2",
+        "The log has a length, and is at address 0",
+        "is #, and the log has bytes",
+        "Write the address of the log, in memory that the OS leaves alone, or 0 to LAML if there is no log.";
+}
 
 /// The nodes of a PPTT by their types, as lists of offsets: those from this type on lead nowhere.
 const OTHERS: u64 = 2;
 
 /// Judges whether the nodes of a PPTT lead in a circle.
 pub(crate) fn check_cycles(pptt: &[u8], findings: &mut Findings) {
-    let mut nodes = Numbers::new(findings.alloc);
+    let mut nodes = Numbers::new();
     for (offset, node) in Pieces::of(pptt, 36, (1, 1)) {
         nodes.push(field(node, 0, 1).min(OTHERS), offset as u64, offset); // Type
     }
-    findings.need(nodes.sort());
+    nodes.sort();
     let count = nodes.all.len();
     // The walk in which a node came first, counted from 1.
-    let Ok(mut walks) = vec![in findings.alloc; 0usize; count] else {
-        return findings.need(false);
-    };
+    let mut walks = vec![0usize; count];
     for start in 0..count {
         let mut at = start;
         for _ in 0..=count {
@@ -41,7 +55,7 @@ pub(crate) fn check_cycles(pptt: &[u8], findings: &mut Findings) {
             if *walk == start + 1
                 && let Some((_, place, offset)) = nodes.all.get(at)
             {
-                findings.add("pptt-cycle", offset.saturating_add(8), &[*place]);
+                findings.add(&PPTT_CYCLE, offset.saturating_add(8), &[*place]);
             }
             if *walk != 0 {
                 break;
@@ -87,11 +101,11 @@ pub(crate) fn check_processors(machine: &Machine<'_>, findings: &mut Findings) {
     else {
         return;
     };
-    let mut numbers = Numbers::new(machine.alloc);
+    let mut numbers = Numbers::new();
     for (offset, entry) in Pieces::of(madt, 44, (1, 1)) {
         numbers.add(&PROCESSORS, offset, entry);
     }
-    findings.need(numbers.sort());
+    numbers.sort();
     findings.table = index;
     for (offset, node) in Pieces::of(pptt, 36, (1, 1)) {
         // ACPI Processor ID valid and, since revision 2, Node is a Leaf.
@@ -99,7 +113,7 @@ pub(crate) fn check_processors(machine: &Machine<'_>, findings: &mut Findings) {
         let unique = field(node, 12, 4);
         if field(node, 0, 1) == 0 && is_processor && !numbers.has(UIDS, unique) {
             let at = offset.saturating_add(12);
-            findings.add("pptt-processor-nowhere", at, &[unique]);
+            findings.add(&PPTT_PROCESSOR_NOWHERE, at, &[unique]);
         }
     }
 }

@@ -1,11 +1,10 @@
 //! The judgement of an input's tables by rules: what firmware has wrong, by the specifications that define the tables.
 //!
-//! A rule is a line of its subject's `RULES`, and code of the subject that adds a finding by the rule's id, or rows of
-//! `fields.rt` that name a field. A line is `ID SEVERITY SECTION | WHAT | MESSAGE`: the section that the rule rests on,
-//! what it finds, and the message of a finding, in which `#` and `%` are replaced by its numbers. A rule without a
-//! message has several, or one with a value. `advice.rt` has what to do about what a rule finds.
+//! A rule is an item of its subject (`rules::rules`), and code of the subject that adds a finding by it, or rows of
+//! `fields.rs` that name a field. It has the section that it rests on, what it finds, the message of a finding, in which
+//! `#` and `%` are replaced by its numbers, and what to do about that. A rule without a message has several, or one with
+//! a value.
 
-pub mod advice;
 mod affinities;
 mod aml;
 mod devices;
@@ -26,14 +25,12 @@ pub mod rules;
 mod spans;
 
 use acpi_programs::input::entries::own_signature;
-use acpi_programs::input::judgement::Judgement;
-use acpi_programs::rattle::alloc::AllocError;
 use findings::Findings;
 pub use machine::Machine;
 use machine::table_of;
 
-/// The texts of the rules, subject by subject.
-fn subjects() -> [&'static str; 11] {
+/// The rules, subject by subject.
+fn subjects() -> [&'static [&'static rules::Rule]; 11] {
     [
         roots::RULES,
         headers::RULES,
@@ -50,10 +47,8 @@ fn subjects() -> [&'static str; 11] {
 }
 
 /// What the rules find in the tables of a machine, in the order of the tables, and in a table by offset.
-///
-/// Fails if memory runs out.
-pub fn findings_of(machine: &Machine<'_>) -> Result<Judgement, AllocError> {
-    let mut findings = Findings::new(machine.alloc)?;
+pub fn findings_of(machine: &Machine<'_>) -> Vec<rules::Finding> {
+    let mut findings = Findings::new();
     roots::check_roots(machine, &mut findings);
     for (index, entry) in machine.entries.iter().enumerate() {
         findings.table = index;

@@ -1,7 +1,5 @@
 //! Lists of numbers of a table, such as ids, with the offsets at which they are.
 
-use acpi_programs::rattle::Vec;
-use acpi_programs::rattle::alloc::Global;
 use zacpi::sdt::field;
 
 /// Where the structures of a type have a number: the type, the list that the number goes to, its offset and its length,
@@ -11,19 +9,17 @@ pub(crate) type Kept = (u64, u64, (usize, usize), usize);
 /// Lists of numbers: the list, the number, and its offset.
 pub(crate) struct Numbers {
     pub(crate) all: Vec<(u64, u64, usize)>,
-    /// Whether memory for all of them was there.
-    is_whole: bool,
 }
 
 impl Numbers {
     /// No numbers.
-    pub(crate) fn new(alloc: Global) -> Numbers {
-        Numbers { all: Vec::new(alloc), is_whole: true }
+    pub(crate) fn new() -> Numbers {
+        Numbers { all: Vec::new() }
     }
 
     /// Adds a number to a list.
     pub(crate) fn push(&mut self, list: u64, number: u64, offset: usize) {
-        self.is_whole &= self.all.push((list, number, offset)).is_ok();
+        self.all.push((list, number, offset));
     }
 
     /// Adds what rows say that the structure at an offset has.
@@ -38,10 +34,9 @@ impl Numbers {
         }
     }
 
-    /// Sorts each list, equal numbers by offset. Returns whether memory sufficed for that and for all of them.
-    pub(crate) fn sort(&mut self) -> bool {
-        self.is_whole &= self.all.sort_by_key(|it| *it).is_ok();
-        self.is_whole
+    /// Sorts each list, equal numbers by offset.
+    pub(crate) fn sort(&mut self) {
+        self.all.sort();
     }
 
     /// The place of the least number of a list that is no less than another one, or of what follows the list. The lists

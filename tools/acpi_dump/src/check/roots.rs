@@ -3,25 +3,56 @@
 use crate::check::findings::Findings;
 use crate::check::machine::Machine;
 use crate::check::numbers::Numbers;
+use crate::check::rules::rules;
 use crate::check::spans::{Span, overlaps};
 use acpi_programs::input::entries::own_signature;
 use acpi_programs::input::status::Status;
-use acpi_programs::rattle::Vec;
 use zacpi::sdt::{Signature, field};
 
-pub(crate) const RULES: &str = "
-root-null-pointer warning ACPI 6.5, section 5.2.8 | The root table lists the address 0 | no table is at 0
-root-listed-twice warning ACPI 6.5, section 5.2.8 | The root table lists an address twice | the address # is also at #
-root-lists-differ warning ACPI 6.5, section 5.2.5.3 | The RSDT and the XSDT list different tables
-root-rsdt-in-use note ACPI 6.5, section 5.2.8 | An RSDT leads to the tables of a machine since ACPI 2.0, which \
-has an XSDT
-root-second-table warning ACPI 6.5, section 5.2.6 | A table of which a machine has one is there twice \
-    | a machine has one of them
-root-nothing-there note ACPI 6.5, section 5.2.8 | The input has no byte of a table that is listed
-root-no-fadt error ACPI 6.5, section 5.2.9 | No FADT is listed | lists no FADT
-root-no-madt warning ACPI 6.5, section 5.2.12 | No MADT is listed | lists no MADT
-root-overlap error ACPI 6.5, section 5.2 | Two tables share bytes | shares bytes with the table at #
-";
+rules! {
+    ROOT_NULL_POINTER = Warning "root-null-pointer", "ACPI 6.5, section 5.2.8",
+        "The root table lists the address 0",
+        "no table is at 0",
+        "Remove the entry, and shorten the table's Length by it. An OS may map address 0 and judge what is there as a \
+         table.";
+    ROOT_LISTED_TWICE = Warning "root-listed-twice", "ACPI 6.5, section 5.2.8",
+        "The root table lists an address twice",
+        "the address # is also at #",
+        "List each table once. An OS may load an SSDT that is listed twice a second time, and fails at its first name.";
+    ROOT_LISTS_DIFFER = Warning "root-lists-differ", "ACPI 6.5, section 5.2.5.3",
+        "The RSDT and the XSDT list different tables",
+        "",
+        "Install and remove tables in both lists, or publish the XSDT alone. An OS reads the XSDT, older ones and \
+         some loaders the RSDT, and they would see two machines.";
+    ROOT_RSDT_IN_USE = Note "root-rsdt-in-use", "ACPI 6.5, section 5.2.8",
+        "An RSDT leads to the tables of a machine since ACPI 2.0, which has an XSDT",
+        "",
+        "Publish an XSDT too, and name it in an RSDP of revision 2. No table that an RSDT lists can be above 4 GiB.";
+    ROOT_SECOND_TABLE = Warning "root-second-table", "ACPI 6.5, section 5.2.6",
+        "A table of which a machine has one is there twice",
+        "a machine has one of them",
+        "Remove one of the two, such as one that an earlier stage of the firmware left. An OS reads the first only.";
+    ROOT_NOTHING_THERE = Note "root-nothing-there", "ACPI 6.5, section 5.2.8",
+        "The input has no byte of a table that is listed",
+        "",
+        "If the input is all of the memory, correct the entry's address. If it is a part, take the table's memory \
+         into the dump.";
+    ROOT_NO_FADT = Error "root-no-fadt", "ACPI 6.5, section 5.2.9",
+        "No FADT is listed",
+        "lists no FADT",
+        "Install a FADT, and list it in the XSDT. Without it an OS finds neither the DSDT nor the registers of power \
+         management, and doesn't use ACPI.";
+    ROOT_NO_MADT = Warning "root-no-madt", "ACPI 6.5, section 5.2.12",
+        "No MADT is listed",
+        "lists no MADT",
+        "Install a MADT with the processors and the interrupt controllers. Without it an OS starts one processor at \
+         best, and a machine of GICs doesn't boot.";
+    ROOT_OVERLAP = Error "root-overlap", "ACPI 6.5, section 5.2",
+        "Two tables share bytes",
+        "shares bytes with the table at #",
+        "Give each table memory of its own for its whole Length. What is written to one of the two, if only its \
+         checksum, changes the other.";
+}
 
 /// The signatures of tables of which a machine has one.
 const SINGLE: &str = "APIC BERT BGRT CPEP DBG2 DMAR DSDT ECDT EINJ ERST FACP FACS FPDT GTDT HEST HMAT IORT IVRS \
@@ -34,7 +65,7 @@ const BESIDE: u64 = 1;
 
 /// Judges what leads to the tables, and where these are.
 pub(crate) fn check_roots(machine: &Machine<'_>, findings: &mut Findings) {
-    let mut pointers = Numbers::new(machine.alloc);
+    let mut pointers = Numbers::new();
     if let Some((index, xsdt)) = machine.first(Signature::XSDT) {
         findings.table = index;
         add_pointers(LISTED, xsdt, 8, &mut pointers);
@@ -65,21 +96,21 @@ fn add_pointers(list: u64, table: &[u8], width: usize, pointers: &mut Numbers) {
 
 /// Judges the pointers of the root table, and compares an XSDT with the RSDT that is beside it.
 fn check_pointers(has_beside: bool, pointers: &mut Numbers, findings: &mut Findings) {
-    findings.add_repeated(&["root-listed-twice"], pointers);
+    findings.add_repeated(&[&ROOT_LISTED_TWICE], pointers);
     for (list, address, offset) in pointers.all.iter() {
         let (list, address) = (*list, *address);
         if address == 0 {
             if list == LISTED {
-                findings.add("root-null-pointer", *offset, &[]);
+                findings.add(&ROOT_NULL_POINTER, *offset, &[]);
             }
         } else if list == BESIDE {
             if !pointers.has(LISTED, address) {
                 let words = "the RSDT lists # as well";
-                findings.add_words("root-lists-differ", 4, words, &[address]);
+                findings.add_words(&ROOT_LISTS_DIFFER, 4, words, &[address]);
             }
         } else if has_beside && address < 1 << 32 && !pointers.has(BESIDE, address) {
             let words = "the RSDT doesn't list #";
-            findings.add_words("root-lists-differ", *offset, words, &[address]);
+            findings.add_words(&ROOT_LISTS_DIFFER, *offset, words, &[address]);
         }
     }
 }
@@ -90,10 +121,10 @@ fn check_revision(machine: &Machine<'_>, findings: &mut Findings) {
     let rsdp = field(machine.rsdp, 15, 1);
     if rsdp >= 2 {
         let words = "the RSDP has revision %, and so an XSDT";
-        findings.add_words("root-rsdt-in-use", 0, words, &[rsdp]);
+        findings.add_words(&ROOT_RSDT_IN_USE, 0, words, &[rsdp]);
     } else if fadt >= 3 {
         let words = "the FADT has revision %, as machines with an XSDT have it";
-        findings.add_words("root-rsdt-in-use", 0, words, &[fadt]);
+        findings.add_words(&ROOT_RSDT_IN_USE, 0, words, &[fadt]);
     }
 }
 
@@ -113,29 +144,29 @@ fn check_listed(machine: &Machine<'_>, findings: &mut Findings) {
         has_madt |= signature == Signature::MADT;
     }
     if !has_fadt {
-        findings.add("root-no-fadt", 4, &[]);
+        findings.add(&ROOT_NO_FADT, 4, &[]);
     }
     if !has_madt {
-        findings.add("root-no-madt", 4, &[]);
+        findings.add(&ROOT_NO_MADT, 4, &[]);
     }
 }
 
 /// Finds second tables of which a machine has one, unless the one before it is at the same place.
 fn check_second(machine: &Machine<'_>, findings: &mut Findings) {
-    let mut tables = Numbers::new(machine.alloc);
+    let mut tables = Numbers::new();
     for (index, entry) in machine.entries.iter().enumerate() {
         if SINGLE.contains(own_signature(entry.bytes).as_str().unwrap_or("-")) {
             tables.push(0, field(entry.bytes, 0, 4), index);
         }
     }
-    findings.need(tables.sort());
+    tables.sort();
     let mut before = (0, None);
     for (_, letters, index) in tables.all.iter() {
         let place = machine.entries.get(*index).and_then(|entry| entry.place.address());
         let is_same_place = place == before.1 && !matches!(place, None | Some(0));
         if before.0 == *letters && !is_same_place {
             findings.table = *index;
-            findings.add("root-second-table", 0, &[]);
+            findings.add(&ROOT_SECOND_TABLE, 0, &[]);
         }
         before = (*letters, place);
     }
@@ -143,7 +174,7 @@ fn check_second(machine: &Machine<'_>, findings: &mut Findings) {
 
 /// Finds tables that have no bytes, and those that share some, of which it takes the one of a higher address.
 fn check_overlap(machine: &Machine<'_>, findings: &mut Findings) {
-    let mut spans = Vec::new(machine.alloc);
+    let mut spans = Vec::new();
     for (index, entry) in machine.entries.iter().enumerate() {
         let address = entry.place.address().unwrap_or(0);
         if address == 0 {
@@ -151,16 +182,16 @@ fn check_overlap(machine: &Machine<'_>, findings: &mut Findings) {
         }
         if let Some(more) = entry.bytes.len().checked_sub(1) {
             let span = Span::of(address, more as u64, index, 0);
-            findings.need(spans.push(span).is_ok());
+            spans.push(span);
         } else if !matches!(entry.status, Status::NotHere) {
             findings.table = index;
-            findings.add_value("root-nothing-there", 0, &entry.status);
+            findings.add_value(&ROOT_NOTHING_THERE, 0, &entry.status);
         }
     }
-    for (before, span) in overlaps(&mut spans, findings) {
+    for (before, span) in overlaps(&mut spans) {
         if span.first != before.first {
             findings.table = span.offset;
-            findings.add("root-overlap", 0, &[before.first]);
+            findings.add(&ROOT_OVERLAP, 0, &[before.first]);
         }
     }
 }

@@ -17,9 +17,9 @@
 use crate::check::fields::ROWS;
 use crate::check::findings::Findings;
 use crate::check::numbers::Numbers;
+use crate::check::rules::{Rule, rule_of};
 use acpi_programs::input::entries::own_signature;
 use acpi_programs::rattle::Pieces;
-use acpi_programs::rattle::Vec;
 use acpi_programs::walk::fields::{number_of as number_in, unnamed_in};
 use acpi_programs::walk::language::{cut_at, is_chosen, next_word, number_at, number_of};
 use acpi_programs::walk::walk::{Field, Group, Show, walk_table};
@@ -32,7 +32,7 @@ const DEPTH: usize = 17;
 struct Row {
     field: &'static str,
     structure: &'static str,
-    rule: &'static str,
+    rule: &'static Rule,
     test: &'static str,
     /// The number that is right anyway, or no letters.
     exempt: &'static str,
@@ -52,7 +52,7 @@ impl Row {
         Row {
             field: field.trim_ascii(),
             structure: structure.trim_ascii(),
-            rule,
+            rule: rule_of(rule).expect("a row names a rule"),
             test: test.trim_ascii(),
             exempt: exempt.trim_ascii(),
             place: place.trim_ascii(),
@@ -184,15 +184,12 @@ fn judge_numbers(rows: &[Row], numbers: &Numbers, findings: &mut Findings) {
 
 /// Judges a table by the rows that lines are.
 fn check_lines(table: &[u8], lines: &'static str, findings: &mut Findings) {
-    let numbers = Numbers::new(findings.alloc);
-    let mut rows = Vec::new(findings.alloc);
-    for line in lines.pieces('\n') {
-        findings.need(rows.push(Row::read(line)).is_ok());
-    }
+    let numbers = Numbers::new();
+    let rows: Vec<_> = lines.pieces('\n').filter(|line| !line.is_empty()).map(Row::read).collect();
     let mut judged = Judged { findings, rows: &rows, titles: ["-"; DEPTH], depth: 0, numbers };
     walk_table(own_signature(table), table, &mut judged);
     let Judged { findings, mut numbers, .. } = judged;
-    findings.need(numbers.sort());
+    numbers.sort();
     judge_numbers(&rows, &numbers, findings);
 }
 

@@ -1,7 +1,5 @@
 //! Ranges of numbers, such as addresses, that should not overlap.
 
-use crate::check::findings::Findings;
-use acpi_programs::rattle::Vec;
 
 /// A range of numbers, from its first to its last.
 #[derive(Clone, Copy)]
@@ -22,14 +20,14 @@ impl Span {
 }
 
 /// The spans that begin within one that begins before them or with them, each after that one.
-pub(crate) fn overlaps(spans: &mut Vec<Span>, findings: &mut Findings) -> Vec<(Span, Span)> {
-    findings.need(spans.sort_by_key(|it| (it.first, it.offset)).is_ok());
-    let mut found = Vec::new(findings.alloc);
+pub(crate) fn overlaps(spans: &mut [Span]) -> Vec<(Span, Span)> {
+    spans.sort_by_key(|it| (it.first, it.offset));
+    let mut found = Vec::new();
     let mut furthest: Option<Span> = None;
     for span in spans.iter() {
         if let Some(before) = furthest {
             if span.first <= before.last {
-                findings.need(found.push((before, *span)).is_ok());
+                found.push((before, *span));
             }
             if span.last <= before.last {
                 continue;

@@ -6,11 +6,11 @@ mod objects;
 mod pairs;
 mod pieces;
 
+use crate::text::granted;
 use crate::compare::outline::{Side, items_of};
 use acpi_programs::code::Known as Names;
 use acpi_programs::input::entries::{Entry, print_name};
-use acpi_programs::rattle::Vec;
-use acpi_programs::rattle::alloc::{AllocError, Global};
+use acpi_programs::rattle::alloc::Global;
 use acpi_programs::walk::out::Out;
 use code::{Code, names_in};
 use known::Known;
@@ -75,7 +75,6 @@ struct Found<'a, 'i, 's> {
     /// The names of the fields that are left out.
     ignored: &'i [&'s str],
     differences: Vec<Difference<'a>>,
-    is_refused: bool,
 }
 
 impl<'a> Found<'a, '_, '_> {
@@ -102,7 +101,7 @@ impl<'a> Found<'a, '_, '_> {
 
     /// Adds a difference.
     fn push(&mut self, difference: Difference<'a>) {
-        self.is_refused |= self.differences.push(difference).is_err();
+        self.differences.push(difference);
     }
 
     /// Adds the fields that differ between two structures, in the order of their offsets.
@@ -143,9 +142,9 @@ impl<'a> Found<'a, '_, '_> {
 
     /// Adds all differences: of the structures of the first table in their order, and then those that the second one
     /// alone has.
-    fn add_all(&mut self, alloc: Global) -> Result<(), AllocError> {
+    fn add_all(&mut self) {
         let (old, new) = (self.old, self.new);
-        let pairs = pairs_of(alloc, old, new)?;
+        let pairs = pairs_of(old, new);
         for part in 0..old.parts.len() {
             if let Some(other) = pairs.other(part) {
                 self.add_fields(part, other);
@@ -158,10 +157,6 @@ impl<'a> Found<'a, '_, '_> {
                 self.add_alone(false, part);
             }
         }
-        if self.is_refused {
-            return Err(AllocError);
-        }
-        Ok(())
     }
 }
 
@@ -263,57 +258,43 @@ fn print_difference(difference: &Difference<'_>, out: &mut Out) {
 }
 
 /// The differences between the structures and items of two tables, less the fields whose names are ignored.
-pub fn differences<'a>(
-    alloc: Global,
-    old: Side<'a>,
-    new: Side<'a>,
-    ignored: &[&str],
-) -> Result<Vec<Difference<'a>>, AllocError> {
-    let mut found = Found { old, new, ignored, differences: Vec::new(alloc), is_refused: false };
-    found.add_all(alloc)?;
-    Ok(found.differences)
+pub fn differences<'a>(old: Side<'a>, new: Side<'a>, ignored: &[&str]) -> Vec<Difference<'a>> {
+    let mut found = Found { old, new, ignored, differences: Vec::new() };
+    found.add_all();
+    found.differences
 }
 
 /// Shows the differences between two tables, and returns whether there are some. The bytes of AML are compared by its
 /// objects.
 fn compare_pair<'e, S: ShowDifferences>(
-    alloc: Global,
     old: &Entry<'e>,
     new: &Entry<'e>,
     names: (&Names<'_>, &Names<'_>),
     ignored: &[&str],
     show: &mut S,
-) -> Result<bool, AllocError> {
-    let (items, others) = (items_of(alloc, old), items_of(alloc, new));
-    let (was, is) = (items.side()?, others.side()?);
-    let changes = changes_of(alloc, was, is, names, ignored)?;
+) -> bool {
+    let (items, others) = (items_of(old), items_of(new));
+    let (was, is) = (items.side(), others.side());
+    let changes = changes_of(was, is, names, ignored);
     let (front, other_front) = (was.without_objects(), is.without_objects());
-    let found = changes.after(differences(alloc, front, other_front, ignored)?)?;
+    let found = changes.after(differences(front, other_front, ignored));
     if !found.is_empty() {
         show.pair(old, new, &found);
     }
-    Ok(!found.is_empty())
+    !found.is_empty()
 }
 
 /// Shows the tables that are in one input alone, and of tables in both the fields that differ, less the ones whose
 /// names are ignored. Returns whether it shows something.
-///
-/// Fails if memory runs out.
-pub fn compare<S: ShowDifferences>(
-    alloc: Global,
-    old: &[Entry<'_>],
-    new: &[Entry<'_>],
-    ignored: &[&str],
-    show: &mut S,
-) -> Result<bool, AllocError> {
-    let (was, is) = (&names_in(alloc, old)?, &names_in(alloc, new)?);
-    let names = (&Names::new(alloc, was)?, &Names::new(alloc, is)?);
+pub fn compare<S: ShowDifferences>(old: &[Entry<'_>], new: &[Entry<'_>], ignored: &[&str], show: &mut S) -> bool {
+    let (was, is) = (&names_in(old), &names_in(new));
+    let names = (&granted(Names::new(Global, was)), &granted(Names::new(Global, is)));
     let mut any = false;
     for index in 0..old.len() {
         if let Some(number) = same_in(old, index, new)
             && let Some(other) = new.get(number)
         {
-            any |= compare_pair(alloc, &old[index], other, names, ignored, show)?;
+            any |= compare_pair(&old[index], other, names, ignored, show);
         } else {
             any = true;
             show.alone(true, &old[index]);
@@ -325,5 +306,5 @@ pub fn compare<S: ShowDifferences>(
             show.alone(false, &new[index]);
         }
     }
-    Ok(any)
+    any
 }

@@ -1,19 +1,16 @@
 //! What is left out of what rules find: the findings of an earlier check, and those that a list accepts.
 
-use crate::check::rules::rules;
+use crate::text::printed;
+use crate::check::rules::{Finding, rule_of};
 use crate::dump::arguments::Request;
-use crate::json::{Error, Scratch, Value};
 use acpi_programs::input::entries::{Entry, own_signature};
 use acpi_programs::input::errors::{Log, Stop, fail, tell};
-use acpi_programs::input::judgement::{Finding, Judgement, Rule};
 use acpi_programs::input::sources::{Sources, reason_of};
 use acpi_programs::rattle::Pieces;
-use acpi_programs::rattle::Vec;
-use acpi_programs::rattle::alloc::{AllocError, Global};
-use acpi_programs::rattle::io::ErrorKind;
+use acpi_programs::rattle::alloc::Global;
 use acpi_programs::walk::fields::print_text;
 use acpi_programs::walk::language::next_word;
-use acpi_programs::walk::out::Out;
+use serde_json::Value;
 
 /// The files that `--baseline` and `--ignore-rules` name, and what is in them.
 pub(crate) struct Accepted<'w> {
@@ -36,7 +33,7 @@ struct Fault<'f> {
 }
 
 /// Whether a finding of an earlier check has a text in a member, or no such member if the text has no letters.
-fn has(earlier: &Value<'_>, name: &str, text: &str) -> bool {
+fn has(earlier: &Value, name: &str, text: &str) -> bool {
     match earlier.get(name) {
         Some(value) => value.as_str() == Some(text),
         None => text.is_empty(),
@@ -45,7 +42,7 @@ fn has(earlier: &Value<'_>, name: &str, text: &str) -> bool {
 
 impl Fault<'_> {
     /// Whether a finding of an earlier check is of it.
-    fn is_in(self, earlier: &Value<'_>) -> bool {
+    fn is_in(self, earlier: &Value) -> bool {
         has(earlier, "rule", self.rule)
             && has(earlier, "signature", self.table)
             && has(earlier, "field", self.field)
@@ -76,39 +73,27 @@ impl Line<'_> {
 }
 
 /// The findings of an earlier check that aren't found yet.
-struct Earlier<'e, 'v> {
-    findings: Option<&'e [Value<'v>]>,
+struct Earlier<'e> {
+    findings: &'e [Value],
     are_found: Vec<bool>,
     /// The number of the one after the last that was found: the next comes mostly there.
     next: usize,
 }
 
-impl<'e, 'v> Earlier<'e, 'v> {
+impl<'e> Earlier<'e> {
     /// No finding is found yet.
-    fn new(alloc: Global, findings: Option<&'e [Value<'v>]>) -> Result<Earlier<'e, 'v>, AllocError> {
-        let mut are_found = Vec::new(alloc);
-        if let Some(findings) = findings {
-            are_found.resize(findings.len(), false)?;
-        }
-        Ok(Earlier { findings, are_found, next: 0 })
+    fn new(findings: &'e [Value]) -> Earlier<'e> {
+        Earlier { findings, are_found: vec![false; findings.len()], next: 0 }
     }
 
     /// Finds a fault at one of these places, and takes it from the list. Returns whether it is there.
     fn finds_among(&mut self, first: usize, end: usize, fault: Fault<'_>) -> bool {
-        let Some(findings) = self.findings else {
-            return false;
-        };
-        for number in first..end {
-            let (Some(finding), Some(is_found)) = (findings.get(number), self.are_found.get_mut(number)) else {
-                break;
-            };
-            if !*is_found && fault.is_in(finding) {
-                *is_found = true;
-                self.next = number + 1;
-                return true;
-            }
+        let found = (first..end).find(|at| !self.are_found[*at] && fault.is_in(&self.findings[*at]));
+        if let Some(at) = found {
+            self.are_found[at] = true;
+            self.next = at + 1;
         }
-        false
+        found.is_some()
     }
 
     /// Finds a fault, and takes it from the list. Returns whether it is there.
@@ -121,27 +106,14 @@ impl<'e, 'v> Earlier<'e, 'v> {
 /// The bytes of a file that an option names, or none without the option.
 ///
 /// Fails, after printing why, if the system returns an error.
-fn bytes_of<S: Sources>(
-    alloc: Global,
-    name: Option<&str>,
-    most: u64,
-    sources: &mut S,
-    log: &mut Log,
-) -> Result<Vec<u8>, Stop> {
+fn bytes_of<S: Sources>(name: Option<&str>, most: u64, sources: &mut S, log: &mut Log) -> Result<Vec<u8>, Stop> {
     let Some(name) = name else {
-        return Ok(Vec::new(alloc));
+        return Ok(Vec::new());
     };
-    match sources.read(alloc, name, most) {
-        Ok(bytes) => Ok(bytes),
-        Err(refusal) if refusal.kind() == ErrorKind::OutOfMemory => Err(Stop::OutOfMemory),
+    match sources.read(Global, name, most) {
+        Ok(bytes) => Ok(bytes.to_vec()),
         Err(refusal) => Err(fail(log, name, &reason_of(&refusal))),
     }
-}
-
-/// Adds an item to a list.
-fn add<T: Copy>(list: &mut Vec<T>, item: T) -> Result<(), AllocError> {
-    list.push(item)?;
-    Ok(())
 }
 
 /// The year, the month and the day of a date `YYYY-MM-DD`, as they are there.
@@ -169,7 +141,7 @@ impl<'l> Line<'l> {
     /// What a line accepts on a day, whose text has no blanks around it.
     ///
     /// Fails, with what is wrong, if the line names no rule, or no reason, or no date after `until`.
-    fn read(number: usize, text: &'l str, rules: &[Rule], today: Option<u64>) -> Result<Line<'l>, &'static str> {
+    fn read(number: usize, text: &'l str, today: Option<u64>) -> Result<Line<'l>, &'static str> {
         let (faults, reason) = text.two_pieces(':').unwrap_or((text, ""));
         if reason.trim_ascii().is_empty() {
             return Err("has no reason after a colon");
@@ -181,7 +153,7 @@ impl<'l> Line<'l> {
         }
         let (rule, rest) = next_word(faults);
         let (table, field) = next_word(rest);
-        if !rules.iter().any(|it| it.id == rule) {
+        if rule_of(rule).is_none() {
             return Err("names no rule: --rules lists them");
         }
         Ok(Line {
@@ -200,7 +172,6 @@ impl<'w> Accepted<'w> {
     ///
     /// Fails, after printing why, if the system returns an error.
     pub(crate) fn read<S: Sources>(
-        alloc: Global,
         request: &Request<'w>,
         sources: &mut S,
         log: &mut Log,
@@ -208,9 +179,9 @@ impl<'w> Accepted<'w> {
         let (baseline, list, most) = (request.baseline, request.accepted, request.reading.most);
         Ok(Accepted {
             baseline,
-            earlier: bytes_of(alloc, baseline, most, sources, log)?,
+            earlier: bytes_of(baseline, most, sources, log)?,
             list,
-            lines: bytes_of(alloc, list, most, sources, log)?,
+            lines: bytes_of(list, most, sources, log)?,
             today: list.and_then(|_| sources.today().ok()),
         })
     }
@@ -218,23 +189,22 @@ impl<'w> Accepted<'w> {
     /// The lines of the list, in order.
     ///
     /// Fails, after printing why, if one isn't as it should be.
-    fn lines(&self, alloc: Global, log: &mut Log) -> Result<Vec<Line<'_>>, Stop> {
-        let mut lines = Vec::new(alloc);
+    fn lines(&self, log: &mut Log) -> Result<Vec<Line<'_>>, Stop> {
+        let mut lines = Vec::new();
         let Some(name) = self.list else {
             return Ok(lines);
         };
         let Ok(text) = str::from_utf8(&self.lines) else {
             return Err(fail(log, name, &"it is not UTF-8"));
         };
-        let rules = &rules(alloc)?;
         for (before, text) in text.lines().enumerate() {
             let text = text.trim_ascii();
             if text.is_empty() || text.starts_with('#') {
                 continue;
             }
             let number = before.saturating_add(1);
-            match Line::read(number, text, rules, self.today) {
-                Ok(line) => add(&mut lines, line)?,
+            match Line::read(number, text, self.today) {
+                Ok(line) => lines.push(line),
                 Err(why) => {
                     let why = format_args!("line {number} {why}");
                     return Err(fail(log, name, &why));
@@ -247,13 +217,12 @@ impl<'w> Accepted<'w> {
     /// The document of the earlier check.
     ///
     /// Fails, after printing why, if it is none.
-    fn document<'s>(&'s self, alloc: Global, scratch: &'s mut Scratch, log: &mut Log) -> Result<Value<'s>, Stop> {
+    fn document(&self, log: &mut Log) -> Result<Value, Stop> {
         let Some(name) = self.baseline else {
             return Ok(Value::Null);
         };
-        match Value::from_slice(alloc, &self.earlier, scratch) {
-            Ok(document) if matches!(document.get("findings"), Some(Value::Array(_))) => Ok(document),
-            Err(Error::OutOfMemory) => Err(Stop::OutOfMemory),
+        match serde_json::from_slice::<Value>(&self.earlier) {
+            Ok(document) if document["findings"].is_array() => Ok(document),
             _ => Err(fail(log, name, &"it is no document of --check --json")),
         }
     }
@@ -263,16 +232,14 @@ impl<'w> Accepted<'w> {
     /// Fails, after printing why, if a file isn't what it should be, or if memory runs out.
     pub(crate) fn rest_of(
         &self,
-        alloc: Global,
-        findings: &Judgement,
+        findings: &[Finding],
         entries: &[Entry<'_>],
         log: &mut Log,
     ) -> Result<Vec<Finding>, Stop> {
-        let mut lines = self.lines(alloc, log)?;
-        let mut scratch = Scratch::new(alloc);
-        let document = self.document(alloc, &mut scratch, log)?;
-        let mut earlier = Earlier::new(alloc, findings_in(&document))?;
-        let rest = rest_after(alloc, findings, entries, &mut earlier, &mut lines)?;
+        let mut lines = self.lines(log)?;
+        let document = self.document(log)?;
+        let mut earlier = Earlier::new(document["findings"].as_array().map_or(&[], Vec::as_slice));
+        let rest = rest_after(findings, entries, &mut earlier, &mut lines);
         self.tell_unused(&lines, log);
         Ok(rest)
     }
@@ -304,47 +271,26 @@ fn is_accepted(lines: &mut Vec<Line<'_>>, fault: Fault<'_>) -> bool {
     is_accepted
 }
 
-/// The findings in a document, if it is one of a check.
-fn findings_in<'d, 'v>(document: &'d Value<'v>) -> Option<&'d [Value<'v>]> {
-    match document.get("findings") {
-        Some(Value::Array(findings)) => Some(findings.as_slice()),
-        _ => None,
-    }
-}
-
 /// Whether an earlier check has a finding in a table of a signature, or lines accept it.
-fn is_known(
-    findings: &Judgement,
-    finding: &Finding,
-    table: &str,
-    earlier: &mut Earlier<'_, '_>,
-    lines: &mut Vec<Line<'_>>,
-) -> bool {
-    let fault = Fault { rule: finding.rule.id, table, field: finding.field, message: findings.message(finding) };
+fn is_known(finding: &Finding, table: &str, earlier: &mut Earlier<'_>, lines: &mut Vec<Line<'_>>) -> bool {
+    let fault = Fault { rule: finding.rule.id, table, field: finding.field, message: &finding.message };
     earlier.finds(fault) || is_accepted(lines, fault)
 }
 
 /// The findings that neither an earlier check has nor lines accept.
-///
-/// Fails if memory runs out.
 fn rest_after(
-    alloc: Global,
-    findings: &Judgement,
+    findings: &[Finding],
     entries: &[Entry<'_>],
-    earlier: &mut Earlier<'_, '_>,
+    earlier: &mut Earlier<'_>,
     lines: &mut Vec<Line<'_>>,
-) -> Result<Vec<Finding>, AllocError> {
-    let mut rest = Vec::new(alloc);
-    let mut table = Out::new(alloc);
-    for finding in findings.list() {
-        table.clear();
-        if let Some(entry) = entries.get(finding.table) {
-            print_text(&own_signature(entry.bytes).to_bytes(), &mut table);
-        }
-        let letters = table.printed().unwrap_or("");
-        if !is_known(findings, finding, letters, earlier, lines) {
-            rest.push(*finding)?;
+) -> Vec<Finding> {
+    let mut rest = Vec::new();
+    for finding in findings {
+        let signature = entries.get(finding.table).map(|entry| own_signature(entry.bytes).to_bytes());
+        let letters = printed(|out| print_text(signature.as_ref().map_or(&[], |letters| letters), out));
+        if !is_known(finding, &letters, earlier, lines) {
+            rest.push(finding.clone());
         }
     }
-    Ok(rest)
+    rest
 }

@@ -3,6 +3,7 @@
 mod words;
 
 use crate::arguments::ArgMatches;
+use crate::check::rules::{Rule, Severity};
 use crate::dump::options::{Choice, Contents, refuse, refuse_option};
 use crate::dump::rules::parse_rule;
 use crate::dump::values::{
@@ -12,11 +13,8 @@ use crate::dump::wanted::{Wanted, check_wanted};
 use acpi_programs::cli::parse_address;
 use acpi_programs::cli::root::{Root, parse_root};
 use acpi_programs::input::errors::{Log, Stop};
-use acpi_programs::input::judgement::{Rule, Severity};
 use acpi_programs::input::kind::{Kind, parse_kind};
 use acpi_programs::input::read::Reading;
-use acpi_programs::rattle::Vec;
-use acpi_programs::rattle::alloc::{AllocError, Global};
 use words::{checked, is_there, name_of, root_words, word_of, words_of};
 use zacpi::sdt::Signature;
 
@@ -77,7 +75,7 @@ pub(crate) struct Request<'w> {
     /// The file of lines that accept findings, which are left out.
     pub(crate) accepted: Option<&'w str>,
     /// The rule that is shown in place of all.
-    pub(crate) rule: Option<Rule>,
+    pub(crate) rule: Option<&'static Rule>,
     pub(crate) format: Format,
     pub(crate) order: Order,
     pub(crate) color: Color,
@@ -93,15 +91,14 @@ const ONE_VIEW: &str = "[--table SIG].. [--hex SIG].. | --get VALUE.. | --text [
 
 impl Request<'_> {
     /// Adds a choice: the tables of a signature, or all.
-    fn choose(&mut self, signature: Option<Signature>, contents: Contents) -> Result<(), AllocError> {
-        self.choices.push(Choice { signature, contents })?;
-        Ok(())
+    fn choose(&mut self, signature: Option<Signature>, contents: Contents) {
+        self.choices.push(Choice { signature, contents });
     }
 
     /// Adds the choices that the words of an option make.
     fn add_choices(
         &mut self,
-        matches: &ArgMatches<'_>,
+        matches: &ArgMatches,
         log: &mut Log,
         option: &'static str,
         contents: Contents,
@@ -111,13 +108,13 @@ impl Request<'_> {
             let Some(signature) = parse_signature(*word) else {
                 return Err(refuse_option(log, option, *word));
             };
-            self.choose(signature, contents)?;
+            self.choose(signature, contents);
         }
         Ok(())
     }
 
     /// Adds the tables whose contents are chosen: in acpidump's text all of them, unless some are named.
-    fn add_contents(&mut self, matches: &ArgMatches<'_>, log: &mut Log) -> Result<(), Stop> {
+    fn add_contents(&mut self, matches: &ArgMatches, log: &mut Log) -> Result<(), Stop> {
         let is_text = matches.get_flag("text");
         let (of_table, of_hex) = if is_text {
             (Contents::Dumped, Contents::Dumped)
@@ -129,7 +126,7 @@ impl Request<'_> {
         self.add_choices(matches, log, "table", of_table)?;
         self.add_choices(matches, log, "hex", of_hex)?;
         if is_text && self.choices.is_empty() {
-            self.choose(None, Contents::Dumped)?;
+            self.choose(None, Contents::Dumped);
         }
         Ok(())
     }
@@ -150,7 +147,7 @@ impl Request<'_> {
     }
 
     /// Adds the view that the options ask for, of which at most one kind may be there.
-    fn add_view(&mut self, matches: &ArgMatches<'_>, log: &mut Log) -> Result<(), Stop> {
+    fn add_view(&mut self, matches: &ArgMatches, log: &mut Log) -> Result<(), Stop> {
         if matches.get_flag("fleet") {
             let why = "fleets are read by the program that cargo builds";
             return Err(refuse_option(log, "fleet", why));
@@ -189,7 +186,7 @@ impl Request<'_> {
     }
 
     /// The first option that is there without the view that it is for, and what that is.
-    fn misplaced(&self, matches: &ArgMatches<'_>) -> Option<(&'static str, &'static str)> {
+    fn misplaced(&self, matches: &ArgMatches) -> Option<(&'static str, &'static str)> {
         let is_checked = matches!(self.view, View::Findings);
         let is_compared = matches!(self.view, View::Differences);
         let are_saved = self.folder.is_some() || self.page.is_some();
@@ -257,7 +254,7 @@ fn is_in_rsdp(word: &str) -> bool {
 /// How the words of options have inputs read.
 ///
 /// Fails, after printing that, if one has no value.
-fn reading_of(matches: &ArgMatches<'_>, log: &mut Log) -> Result<Reading, Stop> {
+fn reading_of(matches: &ArgMatches, log: &mut Log) -> Result<Reading, Stop> {
     let most = word_of(matches, "max-bytes").parse::<u64>().ok();
     Ok(Reading {
         kind: checked(matches, log, "as", parse_kind(word_of(matches, "as")))?,
@@ -267,20 +264,14 @@ fn reading_of(matches: &ArgMatches<'_>, log: &mut Log) -> Result<Reading, Stop> 
 }
 
 /// The least severity of what rules find that is shown, and the rule that is, if they are said.
-///
-/// Fails if memory runs out, or, after printing that, if one isn't there.
-fn judging_of(
-    alloc: Global,
-    matches: &ArgMatches<'_>,
-    log: &mut Log,
-) -> Result<(Option<Severity>, Option<Rule>), Stop> {
+fn judging_of(matches: &ArgMatches, log: &mut Log) -> Result<(Option<Severity>, Option<&'static Rule>), Stop> {
     let least = match word_of(matches, "check") {
         "" => None,
         word => checked(matches, log, "check", Severity::read(word))?,
     };
     let rule = match word_of(matches, "rules") {
         "" => None,
-        word => Some(parse_rule(alloc, log, word)?),
+        word => Some(parse_rule(log, word)?),
     };
     Ok((least, rule))
 }
@@ -289,8 +280,8 @@ fn judging_of(
 ///
 /// Fails if memory runs out, or, after printing that, with the first mistake in this order: the words of options but
 /// those of `--get`, the choices, the views with the words of `--get`, and the way to the root table.
-pub(crate) fn request_of<'m>(alloc: Global, matches: &'m ArgMatches<'_>, log: &mut Log) -> Result<Request<'m>, Stop> {
-    let (least, rule) = judging_of(alloc, matches, log)?;
+pub(crate) fn request_of<'m>(matches: &'m ArgMatches, log: &mut Log) -> Result<Request<'m>, Stop> {
+    let (least, rule) = judging_of(matches, log)?;
     let start = parse_start(word_of(matches, "start"));
     let color = parse_color(word_of(matches, "color"));
     let format = parse_format(word_of(matches, "format"));
@@ -308,7 +299,7 @@ pub(crate) fn request_of<'m>(alloc: Global, matches: &'m ArgMatches<'_>, log: &m
         order: checked(matches, log, "sort", order)?.unwrap_or(Order::Tables),
         color: checked(matches, log, "color", color)?.unwrap_or(Color::Auto),
         view: View::Lines,
-        choices: Vec::new(alloc),
+        choices: Vec::new(),
         wanted: words_of(matches, "get"),
         inputs: matches.get_strs("input").unwrap_or(&[]),
         ignored: words_of(matches, "ignore"),

@@ -1,5 +1,6 @@
 //! The contents of chosen tables.
 
+use crate::text::granted;
 use crate::compare::compare::code::names_in;
 use crate::dump::getters::print_getters;
 use crate::dump::options::{Choice, Contents};
@@ -11,8 +12,7 @@ use acpi_programs::input::dumped::print_dumped;
 use acpi_programs::input::entries::{Entry, own_signature, print_name};
 use acpi_programs::input::errors::{Log, fail};
 use acpi_programs::input::status::Status;
-use acpi_programs::rattle::Vec;
-use acpi_programs::rattle::alloc::{AllocError, Global};
+use acpi_programs::rattle::alloc::Global;
 use acpi_programs::walk::hex::print_dump;
 use acpi_programs::walk::out::Out;
 use acpi_programs::walk::text::Text;
@@ -42,30 +42,24 @@ fn shows(choices: &[Choice], number: usize, entry: &Entry<'_>) -> bool {
 }
 
 /// The tables that some choice has, or all if there is no choice.
-pub(crate) fn chosen_of<'l>(
-    alloc: Global,
-    entries: &[Entry<'l>],
-    choices: &[Choice],
-) -> Result<Vec<Entry<'l>>, AllocError> {
-    let mut chosen = Vec::new(alloc);
+pub(crate) fn chosen_of<'l>(entries: &[Entry<'l>], choices: &[Choice]) -> Vec<Entry<'l>> {
+    let mut chosen = Vec::new();
     for entry in entries {
         if !choices.is_empty() && !choices.iter().any(|choice| chooses(*choice, entry)) {
             continue;
         }
-        chosen.push(*entry)?;
+        chosen.push(*entry);
     }
-    Ok(chosen)
+    chosen
 }
 
 /// The names that tables define, if the operations of some are listed, and else none.
-///
-/// If memory runs out, this fails, or `Known::new` with what it returns.
-pub(crate) fn names_for(alloc: Global, entries: &[Entry<'_>], choices: &[Choice]) -> Result<Paths, AllocError> {
+pub(crate) fn names_for(entries: &[Entry<'_>], choices: &[Choice]) -> Paths {
     let lists_code = choices.iter().any(|choice| choice.contents == Contents::Code);
     if !lists_code {
-        return names_in(alloc, &[]);
+        return names_in(&[]);
     }
-    names_in(alloc, entries)
+    names_in(entries)
 }
 
 /// Adds the tables that are chosen to a document, choice by choice.
@@ -122,10 +116,7 @@ fn print_table(entry: &Entry<'_>, contents: Contents, known: &Known<'_>, paint: 
     match contents {
         Contents::Bytes => print_dump(entry.bytes, out),
         Contents::Code if entry.has_aml() => {
-            let (alloc, table) = (out.allocator(), entry.bytes);
-            if list_table(alloc, known, table, &mut CodeText { out: &mut *out }).is_err() {
-                out.refuse();
-            }
+            granted(list_table(Global, known, entry.bytes, &mut CodeText { out: &mut *out }))
         }
         _ => print_fields(entry, out),
     }
@@ -134,8 +125,7 @@ fn print_table(entry: &Entry<'_>, contents: Contents, known: &Known<'_>, paint: 
 /// Prints the fields of a table.
 fn print_fields(entry: &Entry<'_>, out: &mut Out) {
     let signature = own_signature(entry.bytes);
-    let alloc = out.allocator();
-    walk_with_objects(alloc, signature, entry.bytes, &mut Text { out, depth: 0 });
+    walk_with_objects(Global, signature, entry.bytes, &mut Text { out, depth: 0 });
     if signature == Signature::FADT {
         print_getters(entry.bytes, out);
     }

@@ -10,7 +10,6 @@ mod getters;
 mod listing;
 pub mod options;
 mod paint;
-pub mod parser;
 mod rules;
 pub mod run;
 mod values;

@@ -1,10 +1,9 @@
 //! The options, and their help.
 
-use crate::arguments::{Arg, ArgAction, Command};
 use acpi_programs::input::errors::{Log, Stop};
 use acpi_programs::rattle::Pieces;
-use acpi_programs::rattle::alloc::{AllocError, Global};
 use acpi_programs::walk::language::{cut_at, next_word};
+use clap::{Arg, ArgAction, Command};
 use zacpi::sdt::Signature;
 
 /// The options, a line for each: what it is called, with its letter after a comma if it has one, what it takes, and
@@ -42,14 +41,11 @@ max-bytes NUMBER How many bytes an input has at most: 1073741824 if it isn't sai
 color WHEN auto, always or never";
 
 /// The option that a line describes.
-fn option<'a>(alloc: Global, line: &'static str) -> Arg<'a> {
+fn option(line: &'static str) -> Arg {
     let (names, line) = next_word(line);
     let (takes, help) = next_word(line);
     let (name, letter) = cut_at(names, ',');
-    let mut option = Arg::new(alloc, name).long(name).help(help);
-    if let Some(letter) = letter.chars().next() {
-        option = option.short(letter);
-    }
+    let option = Arg::new(name).long(name).help(help).short(letter.chars().next());
     if takes == "-" {
         return option.action(ArgAction::SetTrue);
     }
@@ -69,8 +65,8 @@ fn option<'a>(alloc: Global, line: &'static str) -> Arg<'a> {
 }
 
 /// The input words.
-fn inputs<'a>(alloc: Global) -> Arg<'a> {
-    Arg::new(alloc, "input")
+fn inputs() -> Arg {
+    Arg::new("input")
         .value_name("INPUT")
         .help(
             "Files of tables, a folder of them, acpidump's or acpiview's text, an image of acpi_pack, raw memory, or \
@@ -85,17 +81,21 @@ Status: 0 shown, 1 something isn't there or can't be read or written, 2 usage, 3
 (--strict), 4 shown and --check finds an error, or with a severity anything of it or worse.";
 
 /// What the options are.
-pub fn command<'a>(alloc: Global) -> Result<Command<'a>, AllocError> {
-    let mut command = Command::new(alloc, "acpi_dump")
+pub fn command() -> Command {
+    let mut command = Command::new("acpi_dump")
         .version("1.0.0")
         .about("Shows ACPI tables")
         .after_help(AFTER)
         .no_binary_name(true)
-        .arg(inputs(alloc))?;
+        .disable_help_flag(true)
+        .disable_version_flag(true)
+        .arg(inputs());
     for line in OPTIONS.pieces('\n') {
-        command = command.arg(option(alloc, line))?;
+        command = command.arg(option(line));
     }
-    Ok(command)
+    let of = |id: &'static str, letter| Arg::new(id).long(id).short(letter);
+    let help = of("help", 'h').action(ArgAction::Help).help("Print help");
+    command.arg(help).arg(of("version", 'V').action(ArgAction::Version).help("Print version"))
 }
 
 /// The form in which the tables of a signature are shown.

@@ -1,18 +1,17 @@
 //! The program over any files, any storage and any writers.
 
+use crate::arguments::{ArgMatches, Refusal};
 use crate::dump::accepted::Accepted;
 use crate::dump::arguments::{Request, View, request_of};
-use crate::dump::options::refuse_option;
+use crate::dump::options::{command, refuse_option};
 use crate::dump::paint::Paint;
-use crate::dump::parser::Parser;
 use crate::dump::values::Color;
 use crate::dump::views::{Output, has_no_start, print_compared, print_input, print_rules, save_input, save_page};
 use acpi_programs::cli::storage::Storage;
 use acpi_programs::input::errors::{Log, Stop, tell};
 use acpi_programs::input::gather::gather;
 use acpi_programs::input::sources::{Sources, reason_of};
-use acpi_programs::rattle::alloc::{AllocError, Global};
-use acpi_programs::rattle::format;
+use acpi_programs::rattle::alloc::Global;
 use acpi_programs::rattle::io;
 use acpi_programs::rattle::io::{ErrorKind, Write};
 use acpi_programs::walk::out::Out;
@@ -22,19 +21,16 @@ use acpi_programs::walk::out::Out;
 /// are not a command, 3 if all is shown but a table is invalid and `--strict` is given, and 4 if `--check` finds an
 /// error.
 ///
-/// Fails if memory runs out, or with the error of the first write or flush of `out`, or else of `err`, that
-/// fails.
-pub fn dump<P: Parser, S: Sources, T: Storage, W: Write, E: Write>(
-    alloc: Global,
-    parser: &P,
+/// Fails with the error of the first write or flush of `out`, or else of `err`, that fails.
+pub fn dump<S: Sources, T: Storage, W: Write, E: Write>(
     arguments: &[&str],
     sources: &mut S,
     storage: &mut T,
     out: W,
     err: E,
 ) -> io::Result<u8> {
-    let (mut shown, mut log) = (Out::new(alloc), Log::new(alloc));
-    let status = print_asked(alloc, parser, arguments, sources, storage, &mut shown, &mut log);
+    let (mut shown, mut log) = (Out::new(Global), Log::new(Global));
+    let status = print_asked(arguments, sources, storage, &mut shown, &mut log);
     if let Err(Stop::OutOfMemory) = &status {
         log.text.text("acpi_dump: out of memory\n");
     }
@@ -43,65 +39,58 @@ pub fn dump<P: Parser, S: Sources, T: Storage, W: Write, E: Write>(
         tell(&mut log, "standard output", &reason_of(refusal));
     }
     let logged = log.text.write_to(err);
-    let status = status_of_run(status, log.is_incomplete)?;
+    let status = status_of_run(status, log.is_incomplete);
     shown.and(logged)?;
     Ok(status)
 }
 
 /// The status of a run of which this was shown: 1 in place of one that means that all is, if something isn't.
-///
-/// Fails if memory ran out.
-fn status_of_run(shown: Result<u8, Stop>, is_incomplete: bool) -> Result<u8, AllocError> {
+fn status_of_run(shown: Result<u8, Stop>, is_incomplete: bool) -> u8 {
     match shown {
-        Ok(0 | 3 | 4) if is_incomplete => Ok(1),
-        Ok(status) => Ok(status),
-        Err(Stop::Message) => Ok(1),
-        Err(Stop::OutOfMemory) => Err(AllocError),
+        Ok(0 | 3 | 4) if is_incomplete => 1,
+        Ok(status) => status,
+        Err(_) => 1,
     }
 }
 
 /// Prints what the arguments ask for.
-fn print_asked<P: Parser, S: Sources, T: Storage>(
-    alloc: Global,
-    parser: &P,
+fn print_asked<S: Sources, T: Storage>(
     arguments: &[&str],
     sources: &mut S,
     storage: &mut T,
     out: &mut Out,
     log: &mut Log,
 ) -> Result<u8, Stop> {
-    match &parser.parse(alloc, arguments) {
-        Ok(matches) => match &request_of(alloc, matches, log) {
-            Ok(request) => print_inputs(alloc, request, sources, storage, out, log),
+    match ArgMatches::of(command(), arguments) {
+        Ok(matches) => match &request_of(&matches, log) {
+            Ok(request) => print_inputs(request, sources, storage, out, log),
             Err(Stop::Message) => Ok(2),
             Err(Stop::OutOfMemory) => Err(Stop::OutOfMemory),
         },
-        Err(refusal) => print_refusal(alloc, refusal, out, log),
+        Err(refusal) => Ok(print_refusal(&refusal, out, log)),
     }
 }
 
 /// Prints why words are no command, or the help or the version that they ask for.
-fn print_refusal(alloc: Global, refusal: &crate::arguments::Error, out: &mut Out, log: &mut Log) -> Result<u8, Stop> {
-    if refusal.kind() == crate::arguments::error::ErrorKind::OutOfMemory {
-        return Err(Stop::OutOfMemory);
-    }
-    let text = format!(in alloc; "{refusal}")?;
-    let text = text.as_str();
-    if refusal.use_stderr() {
-        log.text.text("acpi_dump: ");
-        for line in text.strip_prefix("error: ").unwrap_or(text).lines() {
-            log.text.escaped(line.as_bytes());
-            log.text.text("\n");
+fn print_refusal(refusal: &Refusal, out: &mut Out, log: &mut Log) -> u8 {
+    match refusal {
+        Refusal::Asked(text) => {
+            out.text(text);
+            0
         }
-        return Ok(2);
+        Refusal::Mistake(text) => {
+            log.text.text("acpi_dump: ");
+            for line in text.strip_prefix("error: ").unwrap_or(text).lines() {
+                log.text.escaped(line.as_bytes());
+                log.text.text("\n");
+            }
+            2
+        }
     }
-    out.text(text);
-    Ok(0)
 }
 
 /// Prints what is asked for of the inputs.
 fn print_inputs<S: Sources, T: Storage>(
-    alloc: Global,
     request: &Request<'_>,
     sources: &mut S,
     storage: &mut T,
@@ -113,15 +102,15 @@ fn print_inputs<S: Sources, T: Storage>(
         Color::Always => true,
         Color::Never => false,
     };
-    let accepted = &Accepted::read(alloc, request, sources, log)?;
-    let output = Output { alloc, request, accepted, paint: Paint { is_on }, number: 0 };
+    let accepted = &Accepted::read(request, sources, log)?;
+    let output = Output { request, accepted, paint: Paint { is_on }, number: 0 };
     // No files are saved beside these views but the page of differences.
     match (request.view, request.folder, request.page) {
         (View::Differences, None, _) => return print_two(output, sources, storage, out, log),
         (View::Rules, None, None) => return print_rules(output, out),
         _ => {}
     }
-    let input = &gather(alloc, request.inputs, request.reading, sources, log)?;
+    let input = &gather(Global, request.inputs, request.reading, sources, log)?;
     if has_no_start(output, input, log) {
         return Ok(2);
     }
@@ -145,8 +134,8 @@ fn print_two<S: Sources, T: Storage>(
         return Ok(2);
     };
     let reading = output.request.reading;
-    let old = &gather(output.alloc, &[*first], reading, sources, log)?;
-    let new = &gather(output.alloc, &[*second], reading, sources, log)?;
+    let old = &gather(Global, &[*first], reading, sources, log)?;
+    let new = &gather(Global, &[*second], reading, sources, log)?;
     match output.request.page {
         Some(file) => save_page(output, file, old, Some(new), sources, storage, out, log),
         None => print_compared(output, old, new, out, log),

@@ -38,7 +38,6 @@ use single::print_values;
 /// How a view is printed.
 #[derive(Clone, Copy)]
 pub(crate) struct Output<'o> {
-    pub(crate) alloc: Global,
     pub(crate) request: &'o Request<'o>,
     /// What is left out of what rules find.
     pub(crate) accepted: &'o Accepted<'o>,
@@ -63,12 +62,12 @@ impl<'o> Output<'o> {
 
     /// How files are saved.
     fn saving(self) -> Saving<'o> {
-        Saving { alloc: self.alloc, is_forced: self.request.is_forced, inputs: self.request.inputs }
+        Saving { alloc: Global, is_forced: self.request.is_forced, inputs: self.request.inputs }
     }
 
     /// The beginning of a document of what the view shows in the member of this name.
     fn document(self, part: &'static str) -> Document<'o> {
-        Document::new(self.alloc, self.request.inputs, part)
+        Document::new(self.request.inputs, part)
     }
 }
 
@@ -81,7 +80,7 @@ pub(crate) fn print_input(output: Output<'_>, input: &Input, out: &mut Out, log:
         View::Summary => print_summary(output, input, out, log),
         View::Findings => print_judged(output, input, out, log),
         view => {
-            let entries = &tables_in(output, input, log)?.with_pointer(output.request)?;
+            let entries = &tables_in(output, input, log)?.with_pointer(output.request);
             match view {
                 View::Values => print_values(output, entries, out, log),
                 _ => print_entries(output, entries, out, log),
@@ -115,7 +114,7 @@ pub(crate) fn save_input<S: Sources, T: Storage>(
     let choices = output.request.choices.as_slice();
     let entries = &tables_in(output, input, log)?.entries;
     tell_missing(entries, choices, output.name(), log);
-    let entries = &chosen_of(output.alloc, entries, choices)?;
+    let entries = &chosen_of(entries, choices);
     save_tables(output.saving(), folder, entries, sources, storage, out, log)?;
     Ok(strict_status(output, entries))
 }
@@ -124,8 +123,8 @@ pub(crate) fn save_input<S: Sources, T: Storage>(
 fn print_entries(output: Output<'_>, entries: &[Entry<'_>], out: &mut Out, log: &mut Log) -> Result<u8, Stop> {
     let choices = output.request.choices.as_slice();
     let is_chosen = matches!(output.request.view, View::Tables);
-    let paths = &names_for(output.alloc, entries, choices)?;
-    let known = &Known::new(output.alloc, paths)?;
+    let paths = &names_for(entries, choices);
+    let known = &Known::new(Global, paths)?;
     if output.request.is_json {
         let mut document = output.document("tables");
         let view = if is_chosen {
@@ -137,7 +136,7 @@ fn print_entries(output: Output<'_>, entries: &[Entry<'_>], out: &mut Out, log: 
             }
             "tables"
         };
-        document.print(view, out)?;
+        document.print(view, out);
     } else if is_chosen {
         print_tables(entries, choices, known, output.paint, out);
     } else {

@@ -84,6 +84,6 @@ fn between(old: &[Entry<'_>], new: &[Entry<'_>], ignored: &[&str], sums: &mut Su
     let left_of_new: Vec<Entry<'_>> = (0..new.len()).filter(|at| !is_same(new, *at, old)).map(|at| new[at]).collect();
     let mut found = Collected(Vec::new());
     // Memory that runs out ends the program in Rust.
-    let _ = compare(Global, &left_of_old, &left_of_new, ignored, &mut found);
+    compare(&left_of_old, &left_of_new, ignored, &mut found);
     found.0
 }

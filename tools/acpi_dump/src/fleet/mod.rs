@@ -12,7 +12,6 @@ mod sums;
 
 use crate::arguments::ArgMatches;
 use crate::dump::options::command;
-use acpi_programs::rattle::alloc::Global;
 use machines::{Machine, paths_of, read_machine};
 use progress::Progress;
 use report::{Style, print};
@@ -108,7 +107,7 @@ pub fn status(words: &[&str]) -> Option<u8> {
     if !words.contains(&"--fleet") {
         return None;
     }
-    let matches = command(Global).ok()?.try_get_matches_from(words).ok()?;
+    let matches = ArgMatches::of(command(), words).ok()?;
     matches.get_flag("fleet").then(|| run(&matches))
 }
 
@@ -119,7 +118,7 @@ fn usage(option: &str, why: &str) -> u8 {
     2
 }
 
-fn run(matches: &ArgMatches<'_>) -> u8 {
+fn run(matches: &ArgMatches) -> u8 {
     if let Some(other) = matches.names().find(|name| !BESIDE.contains(name)) {
         return usage(other, "it isn't for --fleet");
     }
@@ -147,7 +146,7 @@ fn run(matches: &ArgMatches<'_>) -> u8 {
 
 /// Reads the machines, and prints what is requested of them.
 fn gather_and_print(
-    matches: &ArgMatches<'_>,
+    matches: &ArgMatches,
     request: &Request<'_>,
     style: Style,
     out: &mut impl Write,

@@ -21,14 +21,14 @@ mod table;
 mod tile;
 mod values;
 
+use crate::text::granted;
+use crate::check::rules::Finding;
 use crate::compare::compare::code::names_in;
 use crate::compare::compare::{differences, same_in};
 use crate::compare::outline::{Items, Side, items_of};
 use acpi_programs::code::Known as Names;
 use acpi_programs::input::entries::Entry;
-use acpi_programs::input::judgement::Judgement;
-use acpi_programs::rattle::Vec;
-use acpi_programs::rattle::alloc::{AllocError, Global};
+use acpi_programs::rattle::alloc::Global;
 use acpi_programs::walk::out::Out;
 use escape::Piece::Printed;
 pub use escape::print_escaped;
@@ -52,7 +52,6 @@ pub struct Given<'p> {
 /// What a page is made of.
 #[derive(Clone, Copy)]
 pub struct Source<'p> {
-    pub alloc: Global,
     /// The input, or the second one of two.
     pub input: Given<'p>,
     /// The input that it is compared with.
@@ -60,7 +59,7 @@ pub struct Source<'p> {
     /// The names of the fields that are left out of what differs.
     pub ignored: &'p [&'p str],
     /// What rules find in the input.
-    pub findings: &'p Judgement,
+    pub findings: &'p [Finding],
 }
 
 impl<'p> Source<'p> {
@@ -74,12 +73,12 @@ impl<'p> Source<'p> {
 }
 
 /// The structures and fields of tables.
-fn outlines_of<'t>(alloc: Global, entries: &[Entry<'t>]) -> Result<Vec<Items<'t>>, AllocError> {
-    let mut outlines = Vec::new(alloc);
+fn outlines_of<'t>(entries: &[Entry<'t>]) -> Vec<Items<'t>> {
+    let mut outlines = Vec::new();
     for entry in entries {
-        outlines.push(items_of(alloc, entry))?;
+        outlines.push(items_of(entry));
     }
-    Ok(outlines)
+    outlines
 }
 
 /// The tables of one input with their structures and fields.
@@ -99,22 +98,21 @@ fn add_sheets<'p>(
     other: Outlined<'p>,
     is_first: bool,
     sheets: &mut Vec<Sheet<'p>>,
-) -> Result<(), AllocError> {
+) {
     for (number, (entry, items)) in own.entries.iter().zip(own.outlines).enumerate() {
         let place = same_in(own.entries, number, other.entries);
         if is_first && place.is_some() {
             continue;
         }
         let id = Id::of(entry, own.entries.get(..number).unwrap_or(&[]), is_first);
-        let mut sheet = sheet_of(source, own.names, entry, items.side()?, id, number)?;
+        let mut sheet = sheet_of(source, own.names, entry, items.side(), id, number);
         if let Some(place) = place
             && let Some(old) = other.outlines.get(place)
         {
-            compare_with(source, old.side()?, &mut sheet)?;
+            compare_with(source, old.side(), &mut sheet);
         }
-        sheets.push(sheet)?;
+        sheets.push(sheet);
     }
-    Ok(())
 }
 
 /// The sheet of the table of this number of an input, without a comparison.
@@ -125,39 +123,36 @@ fn sheet_of<'p>(
     side: Side<'p>,
     id: Id,
     number: usize,
-) -> Result<Sheet<'p>, AllocError> {
-    let findings = if id.is_first { &[] } else { source.findings.list() };
+) -> Sheet<'p> {
+    let findings = if id.is_first { &[] } else { source.findings };
     let standing = if source.first.is_some() { Standing::Only } else { Standing::Alone };
-    Ok(Sheet {
+    Sheet {
         entry,
         id,
         signature: signature_of(entry),
         side,
         names,
-        marks: marks_of(source.alloc, side, number, findings)?,
+        marks: marks_of(side, number, findings),
         findings: source.findings,
         standing,
-    })
+    }
 }
 
 /// Marks what differs in a table from that of the first input.
-fn compare_with<'p>(source: Source<'p>, old: Side<'p>, sheet: &mut Sheet<'p>) -> Result<(), AllocError> {
-    let found = differences(source.alloc, old, sheet.side, source.ignored)?;
-    sheet.marks.add(sheet.side, &found)?;
+fn compare_with<'p>(source: Source<'p>, old: Side<'p>, sheet: &mut Sheet<'p>) {
+    let found = differences(old, sheet.side, source.ignored);
+    sheet.marks.add(sheet.side, &found);
     sheet.standing = if old.table == sheet.side.table { Standing::Same } else { Standing::Beside(old) };
-    Ok(())
 }
 
 /// Prints the page.
-///
-/// Fails if memory runs out.
-pub fn print_page(source: Source<'_>, out: &mut Out) -> Result<(), AllocError> {
-    let outlines = outlines_of(source.alloc, source.input.entries)?;
-    let old_outlines = outlines_of(source.alloc, source.old())?;
-    let paths = names_in(source.alloc, source.input.entries)?;
-    let old_paths = names_in(source.alloc, source.old())?;
-    let names = Names::new(source.alloc, &paths)?;
-    let old_names = Names::new(source.alloc, &old_paths)?;
+pub fn print_page(source: Source<'_>, out: &mut Out) {
+    let outlines = outlines_of(source.input.entries);
+    let old_outlines = outlines_of(source.old());
+    let paths = names_in(source.input.entries);
+    let old_paths = names_in(source.old());
+    let names = granted(Names::new(Global, &paths));
+    let old_names = granted(Names::new(Global, &old_paths));
     print_outlined(source, &outlines, &old_outlines, &names, &old_names, out)
 }
 
@@ -170,14 +165,14 @@ fn print_outlined<'p>(
     names: &'p Names<'p>,
     old_names: &'p Names<'p>,
     out: &mut Out,
-) -> Result<(), AllocError> {
+) {
     let new = Outlined { entries: source.input.entries, outlines, names };
     let old = Outlined { entries: source.old(), outlines: old_outlines, names: old_names };
-    let mut sheets = Vec::new(source.alloc);
-    add_sheets(source, new, old, false, &mut sheets)?;
-    add_sheets(source, old, new, true, &mut sheets)?;
-    let mut machine = Out::new(source.alloc);
-    print_machine(&sheets, &mut machine)?;
+    let mut sheets = Vec::new();
+    add_sheets(source, new, old, false, &mut sheets);
+    add_sheets(source, old, new, true, &mut sheets);
+    let mut machine = Out::new(Global);
+    print_machine(&sheets, &mut machine);
     print_front(source, &sheets, machine.length() > 0, out);
     if machine.length() > 0 {
         let section = "<section id=\"machine\"><h2>The machine</h2><div class=\"board\">\n$</div></section>\n";
@@ -189,5 +184,4 @@ fn print_outlined<'p>(
         print_table(sheet, &sheets, out);
     }
     print_end(out);
-    Ok(())
 }

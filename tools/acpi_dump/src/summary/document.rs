@@ -6,10 +6,10 @@ mod constants;
 mod machine;
 mod tables;
 
-use crate::json::{Pretty, Token, is_number};
+use crate::text::{printed, text_of};
+use crate::json::{Pretty, Token};
 use acpi_programs::rattle::Pieces;
-use acpi_programs::rattle::Vec;
-use acpi_programs::rattle::alloc::{AllocError, Global};
+use acpi_programs::rattle::alloc::Global;
 use acpi_programs::walk::aml::{Ends, Object, Value};
 use acpi_programs::walk::fault::Fault;
 use acpi_programs::walk::fields::{number_of, print_hex, print_meaning, print_path, print_text, print_value};
@@ -46,21 +46,12 @@ pub struct Document<'d> {
     open: Vec<Group>,
     /// The text of the next piece, as far as it is printed.
     draft: Out,
-    /// Whether memory for a piece was refused.
-    is_refused: bool,
 }
 
 impl<'d> Document<'d> {
     /// The beginning of a document, up to the list of what a view shows.
-    pub fn new(alloc: Global, inputs: &'d [&'d str], part: &'static str) -> Document<'d> {
-        let mut document = Document {
-            pieces: Pretty::new(alloc),
-            inputs,
-            part,
-            open: Vec::new(alloc),
-            draft: Out::new(alloc),
-            is_refused: false,
-        };
+    pub fn new(inputs: &'d [&'d str], part: &'static str) -> Document<'d> {
+        let mut document = Document { pieces: Pretty::new(), inputs, part, open: Vec::new(), draft: Out::new(Global) };
         document.token(Token::BeginObject);
         if part > "inputs" {
             document.inputs();
@@ -70,15 +61,9 @@ impl<'d> Document<'d> {
     }
 
     /// The beginning of a document of another form than the program's own: an object.
-    pub fn of_other_form(alloc: Global) -> Document<'static> {
-        let mut document = Document {
-            pieces: Pretty::new(alloc),
-            inputs: &[],
-            part: "",
-            open: Vec::new(alloc),
-            draft: Out::new(alloc),
-            is_refused: false,
-        };
+    pub fn of_other_form() -> Document<'static> {
+        let mut document =
+            Document { pieces: Pretty::new(), inputs: &[], part: "", open: Vec::new(), draft: Out::new(Global) };
         document.token(Token::BeginObject);
         document
     }
@@ -92,39 +77,29 @@ impl<'d> Document<'d> {
     }
 
     /// Prints the document after the end of that list.
-    ///
-    /// Fails if memory for a piece was refused.
-    pub fn print(mut self, view: &str, out: &mut Out) -> Result<(), AllocError> {
+    pub fn print(mut self, view: &str, out: &mut Out) {
         self.end_list();
         self.end(view, out)
     }
 
     /// Prints the document, after its end: the view's name and the version.
-    ///
-    /// Fails if memory for a piece was refused.
-    pub fn end(mut self, view: &str, out: &mut Out) -> Result<(), AllocError> {
+    pub fn end(mut self, view: &str, out: &mut Out) {
         self.number("version", VERSION);
         self.text("view", view);
         self.finish(out)
     }
 
     /// Prints the document after the end of its object.
-    ///
-    /// Fails if memory for a piece was refused.
-    pub fn finish(mut self, out: &mut Out) -> Result<(), AllocError> {
+    pub fn finish(mut self, out: &mut Out) {
         self.token(Token::EndObject);
-        if self.is_refused {
-            return Err(AllocError);
-        }
         let Document { pieces, .. } = self;
         print_json(&pieces.into_inner(), out);
         out.text("\n");
-        Ok(())
     }
 
     /// Adds a piece.
     pub fn token(&mut self, token: Token<'_>) {
-        self.is_refused |= self.pieces.token(token).is_err();
+        self.pieces.token(token);
     }
 
     /// Begins a member that is an object.
@@ -153,12 +128,7 @@ impl<'d> Document<'d> {
 
     /// Adds the digits of a number.
     fn digits(&mut self, number: u64) {
-        write!(self.draft, "{number}");
-        match self.draft.printed() {
-            Some(digits) if is_number(digits) => self.is_refused |= self.pieces.token(Token::Number(digits)).is_err(),
-            _ => self.is_refused = true,
-        }
-        self.draft.clear();
+        self.token(Token::Number(&number.to_string()));
     }
 
     /// Adds numbers by their names, which stand in one text.
@@ -208,11 +178,8 @@ impl<'d> Document<'d> {
 
     /// Adds the text that is drafted, without a name.
     fn end_draft(&mut self) {
-        match self.draft.printed() {
-            Some(text) => self.is_refused |= self.pieces.token(Token::String(text)).is_err(),
-            None => self.is_refused = true,
-        }
-        self.draft.clear();
+        let draft = std::mem::replace(&mut self.draft, Out::new(Global));
+        self.token(Token::String(text_of(&draft)));
     }
 
     /// Adds what a value is as a text.
@@ -250,12 +217,9 @@ impl<'d> Document<'d> {
 
 impl Show for Document<'_> {
     fn field(&mut self, shown: &Field<'_>) {
-        let mut meaning = Out::new(self.draft.allocator());
-        if !matches!(shown.label.meaning, Meaning::Decimal) {
-            print_meaning(shown, &mut meaning);
-        }
-        self.is_refused |= meaning.printed().is_none();
-        let meaning = meaning.printed().unwrap_or("").trim();
+        let is_decimal = matches!(shown.label.meaning, Meaning::Decimal);
+        let meaning = if is_decimal { String::new() } else { printed(|out| print_meaning(shown, out)) };
+        let meaning = meaning.trim();
         self.token(Token::BeginObject);
         if let Meaning::Flags = shown.label.meaning {
             add_flags(self, meaning);
@@ -290,7 +254,7 @@ impl Show for Document<'_> {
         self.token(Token::BeginObject);
         self.number("entry", group.number);
         self.begin_list("fields");
-        self.is_refused |= self.open.push(*group).is_err();
+        self.open.push(*group);
     }
 
     fn end(&mut self) {

@@ -60,13 +60,12 @@ fn add_platform<H: AcpiHandler>(tables: &AcpiTables<'_, H>, srat: &[u8], facts: 
 
 /// Adds the parts of a GIC, or without a FADT what the MADT has of local APICs, or else why the platform isn't known.
 fn add_other<H: AcpiHandler>(tables: &AcpiTables<'_, H>, refusal: AcpiError, srat: &[u8], facts: &mut Facts) {
-    let alloc = facts.allocator();
     if let Ok(madt) = &tables.find_table::<Madt>() {
-        if let Ok(Some(gic)) = &GicModel::of(madt.bytes(), alloc) {
+        if let Ok(Some(gic)) = &GicModel::of(madt.bytes(), Global) {
             return add_gic(facts, gic);
         }
         if refusal == AcpiError::TableMissing(Signature::FADT)
-            && let Ok((model, processors)) = &madt.parse_interrupt_model_in(alloc)
+            && let Ok((model, processors)) = &madt.parse_interrupt_model_in(Global)
         {
             return add_model(facts, model, processors, srat);
         }
@@ -137,9 +136,7 @@ fn add_processors(facts: &mut Facts, boot: &Processor, others: &[Processor], sra
     let numbers = [others.len().saturating_add(1) as u64, disabled as u64];
     let words = "processors\t{total}, {disabled} of them disabled";
     facts.begin("processor_counts", words, &numbers);
-    if add_rows(facts, boot, others, srat).is_err() {
-        facts.lines.refuse();
-    }
+    add_rows(facts, boot, others, srat);
 }
 
 /// Adds the controllers, where each ISA interrupt comes, and the interrupts that can't be masked.

@@ -4,10 +4,10 @@
 use super::devices::{Id, has_id, integer_of};
 use super::names::{Named, Names};
 use super::resources::template_of;
+use super::{AML_MCFG_RESERVED, AML_WINDOWS};
 use crate::check::findings::Findings;
 use crate::check::machine::Machine;
 use crate::check::spans::{Span, overlaps};
-use acpi_programs::rattle::Vec;
 use acpi_programs::walk::aml::resources::{Descriptors, space_of};
 use acpi_programs::walk::fields::print_path;
 use zacpi::mcfg::McfgEntryIter;
@@ -25,14 +25,7 @@ const MEMORY: u64 = 0;
 const BUSES: u64 = 2;
 
 /// Adds to a list of spans, as those of an owner, what the descriptors of a space have that a name is set to.
-fn add_spans(
-    spans: &mut Vec<Span>,
-    space: u64,
-    names: &Names<'_>,
-    it: &Named<'_>,
-    owner: usize,
-    findings: &mut Findings,
-) {
+fn add_spans(spans: &mut Vec<Span>, space: u64, names: &Names<'_>, it: &Named<'_>, owner: usize) {
     let Some((at, bytes)) = template_of(names, it) else {
         return;
     };
@@ -46,7 +39,7 @@ fn add_spans(
         }
         if of == space && count > 0 {
             let span = Span::of(first, count - 1, at.saturating_add(offset), owner as u64);
-            findings.need(spans.push(span).is_ok());
+            spans.push(span);
         }
     }
 }
@@ -72,7 +65,7 @@ pub(super) fn check_regions(machine: &Machine<'_>, names: &Names<'_>, findings: 
     if !names.are_all || !machine.is_whole() {
         return;
     }
-    let mut spans = Vec::new(machine.alloc);
+    let mut spans = Vec::new();
     for it in names.all.iter() {
         if !matches!(names.name(it), b"_CRS") {
             continue;
@@ -81,11 +74,11 @@ pub(super) fn check_regions(machine: &Machine<'_>, names: &Names<'_>, findings: 
             return;
         }
         if !has_id(names, it.scope, &BRIDGES) {
-            add_spans(&mut spans, MEMORY, names, it, 0, findings);
+            add_spans(&mut spans, MEMORY, names, it, 0);
         }
     }
-    findings.need(spans.sort_by_key(|it| (it.first, it.offset)).is_ok());
-    let wholes = wholes_of(&spans, findings);
+    spans.sort_by_key(|it| (it.first, it.offset));
+    let wholes = wholes_of(&spans);
     let mut offset = 44usize;
     findings.table = index;
     for region in McfgEntryIter::over(mcfg) {
@@ -93,19 +86,19 @@ pub(super) fn check_regions(machine: &Machine<'_>, names: &Names<'_>, findings: 
         let start = region.base_address.saturating_add(first << 20);
         let end = region.base_address.saturating_add(last << 20 | 0xfffff);
         if start <= end && !is_within(&wholes, start, end) {
-            findings.add("aml-mcfg-reserved", offset, &[start, end]);
+            findings.add(&AML_MCFG_RESERVED, offset, &[start, end]);
         }
         offset = offset.saturating_add(16);
     }
 }
 
 /// What spans, the lowest first, are together: the first number and the last of each row of numbers without a gap.
-fn wholes_of(spans: &[Span], findings: &mut Findings) -> Vec<(u64, u64)> {
-    let mut wholes: Vec<(u64, u64)> = Vec::new(findings.alloc);
+fn wholes_of(spans: &[Span]) -> Vec<(u64, u64)> {
+    let mut wholes: Vec<(u64, u64)> = Vec::new();
     for span in spans {
         match wholes.last_mut() {
             Some((_, last)) if span.first <= last.saturating_add(1) => *last = span.last.max(*last),
-            _ => findings.need(wholes.push((span.first, span.last)).is_ok()),
+            _ => wholes.push((span.first, span.last)),
         }
     }
     wholes
@@ -120,24 +113,23 @@ fn is_within(wholes: &[(u64, u64)], first: u64, last: u64) -> bool {
 /// Finds addresses and buses that two host bridges have.
 pub(super) fn check_windows(names: &Names<'_>, findings: &mut Findings) {
     for (space, what) in [(0u64, "memory"), (1, "ports"), (BUSES, "buses")] {
-        let mut spans = Vec::new(findings.alloc);
+        let mut spans = Vec::new();
         for (number, it) in names.all.iter().enumerate() {
             if matches!(names.name(it), b"_CRS") && has_id(names, it.scope, &BRIDGES) {
-                add_spans(&mut spans, space, names, it, number, findings);
+                add_spans(&mut spans, space, names, it, number);
             }
         }
-        for (before, span) in overlaps(&mut spans, findings) {
+        for (before, span) in overlaps(&mut spans) {
             if let Some(other) = names.all.get(before.owner as usize)
                 && let Some(it) = names.all.get(span.owner as usize)
                 && before.owner != span.owner
             {
                 findings.table = it.table;
-                let start = findings.text.length();
                 let numbers = [span.first];
                 findings.text.text(what);
                 findings.text.words(" from # on are also those of ", &numbers);
                 print_path(names.scope_path(other), &mut findings.text);
-                findings.end("aml-windows", span.offset, start);
+                findings.end(&AML_WINDOWS, span.offset);
             }
         }
     }

@@ -2,11 +2,11 @@
 
 use super::names::{Names, ROOT};
 use super::values::text_in;
+use super::{AML_GPE_NOWHERE, AML_GPE_TWICE, AML_NO_PROCESSOR, AML_UID_TWICE};
 use crate::check::findings::Findings;
 use crate::check::machine::Machine;
 use crate::check::numbers::{Kept, Numbers};
 use crate::check::pieces::Pieces;
-use acpi_programs::rattle::Vec;
 use acpi_programs::walk::aml::constant::{elements_of, integer_in, next_element};
 use acpi_programs::walk::fields::print_path;
 use zacpi::sdt::{Signature, field};
@@ -61,7 +61,7 @@ fn value_of(data: &[u8]) -> (Option<u64>, &[u8]) {
 
 /// Finds devices that have the _HID and the _UID of another one before them. One that is never there doesn't count.
 pub(super) fn check_ids(names: &Names<'_>, findings: &mut Findings) {
-    let mut found = Vec::new(findings.alloc);
+    let mut found = Vec::new();
     for (number, it) in names.all.iter().enumerate() {
         if it.kind == "Name"
             && matches!(names.name(it), b"_UID")
@@ -70,10 +70,10 @@ pub(super) fn check_ids(names: &Names<'_>, findings: &mut Findings) {
             && !matches!(integer_of(names, it.scope, b"_STA"), Some(status) if status & 1 == 0)
         {
             let device = (value_of(id.data), value_of(it.data), number);
-            findings.need(found.push(device).is_ok());
+            found.push(device);
         }
     }
-    findings.need(found.sort_by_key(|it| *it).is_ok());
+    found.sort_by_key(|it| *it);
     for pair in found.windows(2) {
         if let [one, next] = pair
             && one.0 == next.0
@@ -93,10 +93,9 @@ fn tell_unique(names: &Names<'_>, number: usize, other: usize, findings: &mut Fi
         return;
     }
     findings.table = it.table;
-    let start = findings.text.length();
     print_path(names.scope_path(other), &mut findings.text);
     findings.text.text(" has the same _HID and _UID");
-    findings.end("aml-uid-twice", it.offset, start);
+    findings.end(&AML_UID_TWICE, it.offset);
 }
 
 /// Whether the device whose path has a number is a processor (section 5.6.7).
@@ -141,14 +140,14 @@ pub(super) fn check_processors(machine: &Machine<'_>, names: &Names<'_>, finding
     let Some((index, madt)) = machine.first(Signature::MADT) else {
         return;
     };
-    let mut numbers = Numbers::new(machine.alloc);
+    let mut numbers = Numbers::new();
     if !names.are_all || !machine.is_whole() || !add_processors(names, &mut numbers) {
         return;
     }
     for (offset, entry) in Pieces::of(madt, 44, (1, 1)) {
         numbers.add(&PROCESSORS, offset, entry);
     }
-    findings.need(numbers.sort());
+    numbers.sort();
     if numbers.from(DEFINED, 0).is_none() {
         return;
     }
@@ -161,7 +160,7 @@ pub(super) fn check_processors(machine: &Machine<'_>, names: &Names<'_>, finding
     }
     if let Some((unique, offset)) = first {
         findings.table = index;
-        findings.add("aml-no-processor", offset, &[unique, count]);
+        findings.add(&AML_NO_PROCESSOR, offset, &[unique, count]);
     }
 }
 
@@ -200,12 +199,12 @@ pub(super) fn check_events(machine: &Machine<'_>, names: &Names<'_>, findings: &
             && field(fadt, 112, 4) & 1 << 20 == 0 // HW_REDUCED_ACPI
             && !has_event(fadt, event)
         {
-            findings.add("aml-gpe-nowhere", it.offset, &[event]);
+            findings.add(&AML_GPE_NOWHERE, it.offset, &[event]);
         }
         if let [_, b'L', high, low] = name
             && names.find_in(scope, &[b'_', b'E', *high, *low]).is_some()
         {
-            findings.add("aml-gpe-twice", it.offset, &[event]);
+            findings.add(&AML_GPE_TWICE, it.offset, &[event]);
         }
     }
 }

@@ -1,12 +1,11 @@
 //! What the AML of tables names.
 
 use crate::check::numbers::Numbers;
-use acpi_programs::rattle::Vec;
 use acpi_programs::rattle::alloc::Global;
-use acpi_programs::rattle::collections::BTreeMap;
 use acpi_programs::walk::aml::value::Value;
 use acpi_programs::walk::aml::{Ends, Object};
 use acpi_programs::walk::walk::{Show, ShowObjects, walk_with_objects};
+use std::collections::BTreeMap;
 use zacpi::base::bytes::skip;
 use zacpi::sdt::{Signature, field};
 
@@ -52,8 +51,6 @@ pub(super) struct Names<'a> {
     pub(super) are_all: bool,
     /// Why the list of the last table ends, if it ends before the table.
     end: Option<(u64, Ends)>,
-    /// Whether memory for all of them was there.
-    is_enough: bool,
     /// The table that is read, and its number.
     bytes: &'a [u8],
     table: usize,
@@ -61,38 +58,31 @@ pub(super) struct Names<'a> {
 
 impl<'a> Names<'a> {
     /// No objects.
-    pub(super) fn new(alloc: Global) -> Names<'a> {
+    pub(super) fn new() -> Names<'a> {
         Names {
-            all: Vec::new(alloc),
-            letters: Vec::new(alloc),
-            numbers: BTreeMap::new(alloc),
-            keys: Numbers::new(alloc),
+            all: Vec::new(),
+            letters: Vec::new(),
+            numbers: BTreeMap::new(),
+            keys: Numbers::new(),
             are_all: true,
             end: None,
-            is_enough: true,
             bytes: &[],
             table: 0,
         }
     }
 
     /// Adds the objects of a table of a signature. Returns why its list ends, and where, if it ends before the table.
-    pub(super) fn add_table(
-        &mut self,
-        alloc: Global,
-        number: usize,
-        signature: Signature,
-        table: &'a [u8],
-    ) -> Option<(u64, Ends)> {
+    pub(super) fn add_table(&mut self, number: usize, signature: Signature, table: &'a [u8]) -> Option<(u64, Ends)> {
         self.bytes = table;
         self.table = number;
         self.end = None;
-        walk_with_objects(alloc, signature, table, self);
+        walk_with_objects(Global, signature, table, self);
         self.end
     }
 
-    /// Makes them ready to be found by their paths. Returns whether memory sufficed for that and for all of them.
-    pub(super) fn sort(&mut self) -> bool {
-        self.keys.sort() && self.is_enough
+    /// Makes them ready to be found by their paths.
+    pub(super) fn sort(&mut self) {
+        self.keys.sort();
     }
 
     /// The number of the path that goes on with segments from a path with a number, if a path of an object does.
@@ -112,8 +102,8 @@ impl<'a> Names<'a> {
             number = match self.numbers.get(&place) {
                 Some(found) => *found,
                 None => {
-                    let next = (self.numbers.len() as u64).saturating_add(1);
-                    self.is_enough &= self.numbers.insert(place, next).is_ok();
+                    let next = self.numbers.len() as u64 + 1;
+                    self.numbers.insert(place, next);
                     next
                 }
             };
@@ -195,7 +185,7 @@ impl ShowObjects for Names<'_> {
         let (start, number) = (self.letters.len(), self.all.len());
         let scope = self.numbered(ROOT, outer);
         let key = self.numbered(scope, skip(path, outer.len()));
-        self.is_enough &= self.letters.extend_from_slice(path).is_ok();
+        self.letters.extend_from_slice(path);
         let named = Named {
             table: self.table,
             offset: object.offset as usize,
@@ -206,7 +196,7 @@ impl ShowObjects for Names<'_> {
             at,
             path: (start, self.letters.len()),
         };
-        self.is_enough &= self.all.push(named).is_ok();
+        self.all.push(named);
         if is_defined(object.kind) {
             self.keys.push(0, key, number);
         }

@@ -1,6 +1,7 @@
 //! Resource templates (ACPI 6.5, section 6.4).
 
 use super::names::{Named, Names};
+use super::{AML_RESOURCE_END, AML_RESOURCE_LENGTH, AML_RESOURCE_SUM, AML_RESOURCE_TYPE};
 use crate::check::findings::Findings;
 use acpi_programs::rattle::Pieces;
 use acpi_programs::walk::aml::constant::buffer_in;
@@ -64,13 +65,13 @@ pub(super) fn check_template(names: &Names<'_>, it: &Named<'_>, findings: &mut F
             let checksum = descriptor.get(1).copied().unwrap_or(0);
             if checksum != 0 && sum != 0 {
                 let numbers = [checksum as u64, checksum.wrapping_sub(sum) as u64];
-                findings.add("aml-resource-sum", place.saturating_add(1), &numbers);
+                findings.add(&AML_RESOURCE_SUM, place.saturating_add(1), &numbers);
             }
             return;
         }
     }
     let end = at.saturating_add(end);
-    findings.add("aml-resource-end", end, &[end as u64]);
+    findings.add(&AML_RESOURCE_END, end, &[end as u64]);
 }
 
 /// Judges the type and the length of the descriptor at an offset of a table.
@@ -82,10 +83,10 @@ fn check_descriptor(offset: usize, descriptor: &[u8], findings: &mut Findings) {
         let (of, lengths) = next_word(line);
         if number_of(of) == Some(tag) {
             if !is_chosen(length, lengths) {
-                findings.add("aml-resource-length", offset, &[tag, length]);
+                findings.add(&AML_RESOURCE_LENGTH, offset, &[tag, length]);
             }
             return;
         }
     }
-    findings.add("aml-resource-type", offset, &[tag]);
+    findings.add(&AML_RESOURCE_TYPE, offset, &[tag]);
 }

@@ -1,6 +1,7 @@
 //! What names of a meaning are set to: ids, states and references (ACPI 6.5, sections 6.1, 6.2.13, 6.3.7 and 7.4.2).
 
 use super::names::{Named, Names, ROOT};
+use super::{AML_EISA_ID, AML_LINK_NOWHERE, AML_NO_S5, AML_SLEEP_TYPE, AML_STATUS, AML_TEXT_ID};
 use crate::check::findings::Findings;
 use crate::check::machine::Machine;
 use acpi_programs::walk::aml::constant::{elements_of, integer_in, is_eisa_id, name_in, next_element};
@@ -48,11 +49,11 @@ fn check_id(at: usize, data: &[u8], is_hid: bool, findings: &mut Findings) {
     if let Some(number) = integer_in(data) {
         let [a, b, c, d, _, _, _, _] = number.to_le_bytes();
         if number >> 32 != 0 || !is_eisa_id(&[0x0C, a, b, c, d]) {
-            findings.add("aml-eisa-id", at, &[number]);
+            findings.add(&AML_EISA_ID, at, &[number]);
         }
     } else if let Some(text) = text_in(data) {
         if !is_text_id(text) && (is_hid || text.len() == 7 || text.len() == 8) {
-            findings.add("aml-text-id", at, &[]);
+            findings.add(&AML_TEXT_ID, at, &[]);
         }
     }
 }
@@ -73,7 +74,7 @@ fn check_status(it: &Named<'_>, findings: &mut Findings) {
     if let Some(status) = integer_in(it.data)
         && status >> 5 != 0
     {
-        findings.add("aml-status", it.at, &[status, status >> 5 << 5]);
+        findings.add(&AML_STATUS, it.at, &[status, status >> 5 << 5]);
     }
 }
 
@@ -91,10 +92,10 @@ fn check_types(it: &Named<'_>, findings: &mut Findings) {
         match integer_in(element) {
             Some(number) if number > 7 => {
                 let words = "the type # has more than three bits";
-                findings.add_words("aml-sleep-type", at, words, &[number]);
+                findings.add_words(&AML_SLEEP_TYPE, at, words, &[number]);
             }
             None if name_in(element).is_none() => {
-                findings.add_words("aml-sleep-type", at, "a type is no integer", &[]);
+                findings.add_words(&AML_SLEEP_TYPE, at, "a type is no integer", &[]);
             }
             _ => {}
         }
@@ -115,7 +116,7 @@ pub(super) fn check_soft_off(machine: &Machine<'_>, names: &Names<'_>, findings:
         && names.find_in(ROOT, b"_S5_").is_none()
     {
         findings.table = number;
-        findings.add("aml-no-s5", 0, &[]);
+        findings.add(&AML_NO_S5, 0, &[]);
     }
 }
 
@@ -147,10 +148,9 @@ fn check_routes(names: &Names<'_>, it: &Named<'_>, findings: &mut Findings) {
             && !is_there(names, it, (is_rooted, ups, segments))
         {
             findings.table = it.table;
-            let start = findings.text.length();
             print_path(segments, &mut findings.text);
             findings.text.text(" isn't defined");
-            return findings.end("aml-link-nowhere", end.saturating_sub(rest.len()), start);
+            return findings.end(&AML_LINK_NOWHERE, end.saturating_sub(rest.len()));
         }
         rest = others;
     }

@@ -1,11 +1,11 @@
 //! The lines of methods' code that differ.
 
+use crate::text::{granted, text_of};
 use super::known::Known;
 use acpi_programs::code::changes::{Lines, ShowLines, show_changes};
 use acpi_programs::code::{Extent, Known as Names, Paths, paths_of};
 use acpi_programs::input::entries::Entry;
-use acpi_programs::rattle::Vec;
-use acpi_programs::rattle::alloc::{AllocError, Global};
+use acpi_programs::rattle::alloc::Global;
 use acpi_programs::walk::out::Out;
 
 /// A line that one of two tables alone has: whether that is the first, its offset there, how deep it is, and where its
@@ -80,7 +80,6 @@ impl<'a> Code<'a> {
 pub(super) struct CodeChanges {
     list: Vec<Changed>,
     text: Out,
-    is_refused: bool,
 }
 
 impl ShowLines for CodeChanges {
@@ -88,34 +87,32 @@ impl ShowLines for CodeChanges {
         let start = self.text.length();
         self.text.text(text);
         let changed = Changed { is_first, offset, depth, start, end: self.text.length() };
-        self.is_refused |= self.list.push(changed).is_err();
+        self.list.push(changed);
     }
 }
 
 /// The segments of a path that is printed, four letters each, from its first one on.
-///
-/// Fails if memory runs out.
-pub fn segments_of(alloc: Global, path: &str) -> Result<Vec<u8>, AllocError> {
-    let mut segments = Vec::new(alloc);
+pub fn segments_of(path: &str) -> Vec<u8> {
+    let mut segments = Vec::new();
     for byte in path.as_bytes() {
         if !matches!(*byte, b'\\' | b'.') {
-            segments.push(*byte)?;
+            segments.push(*byte);
         }
     }
-    Ok(segments)
+    segments
 }
 
 /// The lines of a method's code.
-fn lines_of(alloc: Global, names: &Names<'_>, table: &[u8], method: &Known<'_>) -> Result<Lines, AllocError> {
+fn lines_of(names: &Names<'_>, table: &[u8], method: &Known<'_>) -> Lines {
     let (start, end) = method.code();
-    let scope = segments_of(alloc, method.path())?;
-    Lines::of(alloc, names, Extent::of(table, start, end), &scope)
+    let scope = segments_of(method.path());
+    granted(Lines::of(Global, names, Extent::of(table, start, end), &scope))
 }
 
 impl CodeChanges {
     /// None.
-    pub(super) fn new(alloc: Global) -> CodeChanges {
-        CodeChanges { list: Vec::new(alloc), text: Out::new(alloc), is_refused: false }
+    pub(super) fn new() -> CodeChanges {
+        CodeChanges { list: Vec::new(), text: Out::new(Global) }
     }
 
     /// How many there are.
@@ -126,39 +123,28 @@ impl CodeChanges {
     /// Adds those of a method that two tables have.
     pub(super) fn add(
         &mut self,
-        alloc: Global,
         names: (&Names<'_>, &Names<'_>),
         tables: (&[u8], &[u8]),
         was: &Known<'_>,
         is: &Known<'_>,
     ) {
-        if let Ok(old) = lines_of(alloc, names.0, tables.0, was)
-            && let Ok(new) = lines_of(alloc, names.1, tables.1, is)
-        {
-            self.is_refused |= show_changes(alloc, &old, &new, self).is_err();
-        } else {
-            self.is_refused = true;
-        }
+        let (old, new) = (lines_of(names.0, tables.0, was), lines_of(names.1, tables.1, is));
+        granted(show_changes(Global, &old, &new, self));
     }
 
-    /// Those between two numbers, if memory sufficed for all.
-    pub(super) fn between(&self, first: usize, last: usize) -> Option<Code<'_>> {
-        if self.is_refused {
-            return None;
-        }
-        Some(Code { lines: self.list.get(first..last)?, text: self.text.printed()? })
+    /// Those between two numbers.
+    pub(super) fn between(&self, first: usize, last: usize) -> Code<'_> {
+        Code { lines: &self.list[first..last], text: text_of(&self.text) }
     }
 }
 
 /// The names that the tables of an input define, valid or not: any of them may define what the AML of another calls.
-///
-/// If memory runs out, this fails, or `Known::new` with what it returns.
-pub fn names_in(alloc: Global, entries: &[Entry<'_>]) -> Result<Paths, AllocError> {
-    let mut tables = Vec::new(alloc);
+pub fn names_in(entries: &[Entry<'_>]) -> Paths {
+    let mut tables = Vec::new();
     for entry in entries {
         if entry.has_aml() {
-            tables.push(entry.bytes)?;
+            tables.push(entry.bytes);
         }
     }
-    paths_of(alloc, &tables)
+    granted(paths_of(Global, &tables))
 }

@@ -2,8 +2,6 @@
 
 use super::pairs::Key;
 use crate::compare::outline::{BYTES, Part, Side};
-use acpi_programs::rattle::Vec;
-use acpi_programs::rattle::alloc::{AllocError, Global};
 use acpi_programs::walk::out::Out;
 use zacpi::PhysicalRecord;
 use zacpi::sdt::SdtHeader;
@@ -66,7 +64,6 @@ pub(super) struct Objects<'a> {
     last: &'a str,
     /// Up to where the bytes are those of objects, or kept as bytes that none has.
     shown: u64,
-    pub(super) is_refused: bool,
 }
 
 impl<'a> Objects<'a> {
@@ -82,7 +79,7 @@ impl<'a> Objects<'a> {
             value: "",
         };
         self.shown = own.1;
-        self.is_refused |= self.known.push(known).is_err();
+        self.known.push(known);
     }
 
     /// Adds the bytes up to an offset that no object has.
@@ -108,20 +105,19 @@ impl<'a> Objects<'a> {
     }
 
     /// By what the objects are paired: their paths, what they are, and their order.
-    pub(super) fn keys(&self, alloc: Global) -> Result<Vec<Key<'a>>, AllocError> {
-        let mut keys = Vec::new(alloc);
+    pub(super) fn keys(&self) -> Vec<Key<'a>> {
+        let mut keys = Vec::new();
         for (place, known) in self.known.iter().enumerate() {
-            keys.push((known.word.len(), known.path, known.kind, "", place))?;
+            keys.push((known.word.len(), known.path, known.kind, "", place));
         }
-        keys.sort()?;
-        Ok(keys)
+        keys.sort();
+        keys
     }
 }
 
 /// The objects of a table: none, unless it has AML.
-pub(super) fn objects_of<'a>(alloc: Global, side: Side<'a>) -> Objects<'a> {
-    let mut objects =
-        Objects { side, known: Vec::new(alloc), last: ROOT, shown: SdtHeader::MIN_LENGTH as u64, is_refused: false };
+pub(super) fn objects_of<'a>(side: Side<'a>) -> Objects<'a> {
+    let mut objects = Objects { side, known: Vec::new(), last: ROOT, shown: SdtHeader::MIN_LENGTH as u64 };
     for part in side.parts {
         if let Some(own) = part.own {
             objects.add_object(part, own);

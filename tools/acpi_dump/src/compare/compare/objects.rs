@@ -1,5 +1,6 @@
 //! The objects of AML that differ between two tables, paired by their paths.
 
+use crate::text::text_of;
 use super::code::{Code, CodeChanges};
 use super::known::{Known, objects_of};
 use super::pairs::Pairs;
@@ -7,8 +8,7 @@ use super::pieces::{cut_piece, elements_of, head_of, inner, keys_of, step_of};
 use super::{Difference, Title};
 use crate::compare::outline::Side;
 use acpi_programs::code::Known as Names;
-use acpi_programs::rattle::Vec;
-use acpi_programs::rattle::alloc::{AllocError, Global};
+use acpi_programs::rattle::alloc::Global;
 use acpi_programs::walk::out::Out;
 
 /// The objects that differ between two tables, each as the first one has it, or else the second, with the number of the
@@ -18,8 +18,6 @@ pub(super) struct Changes<'a> {
     text: Out,
     /// The lines of methods that differ.
     code: CodeChanges,
-    alloc: Global,
-    is_refused: bool,
 }
 
 /// How an object differs: which table alone has it, or what differs, between two places of the text, and what it is in
@@ -36,7 +34,6 @@ enum Change<'a> {
 /// Two tables whose objects are compared: what they have, and what names stand for.
 #[derive(Clone, Copy)]
 struct Compared<'c> {
-    alloc: Global,
     old: &'c [u8],
     new: &'c [u8],
     names: (&'c Names<'c>, &'c Names<'c>),
@@ -50,7 +47,7 @@ impl<'a> Changes<'a> {
 
     /// Adds a difference of an object, of which the first one has a number.
     fn add(&mut self, known: &Known<'a>, number: usize, change: Change<'a>) {
-        self.is_refused |= self.list.push((*known, number, change)).is_err();
+        self.list.push((*known, number, change));
     }
 
     /// Adds an object that both tables have, if what it is, its value or its own bytes differ.
@@ -67,13 +64,13 @@ impl<'a> Changes<'a> {
             return self.add_whole(was, number, (start, middle, end), first);
         }
         if was.value != is.value {
-            self.is_refused |= self.add_elements(was, is, number).is_err();
+            self.add_elements(was, is, number);
         }
         let are_others = was.own != is.own;
         let is_told = self.next() > number || was.value == is.value && !are_others;
         if is_code && are_others {
             let tables = (compared.old, compared.new);
-            self.code.add(compared.alloc, compared.names, tables, was, is);
+            self.code.add(compared.names, tables, was, is);
         }
         if is_code && are_others || !is_told {
             self.add_bytes(was, is, number, first)
@@ -107,16 +104,16 @@ impl<'a> Changes<'a> {
     }
 
     /// Adds the elements of a value that differ: place by place if there are as many, and else by what they begin with.
-    fn add_elements(&mut self, was: &Known<'a>, is: &Known<'a>, number: usize) -> Result<(), AllocError> {
-        let old = elements_of(self.alloc, was.value)?;
-        let new = elements_of(self.alloc, is.value)?;
-        let mut pairs = Pairs::none(self.alloc, old.len(), new.len())?;
+    fn add_elements(&mut self, was: &Known<'a>, is: &Known<'a>, number: usize) {
+        let old = elements_of(was.value);
+        let new = elements_of(is.value);
+        let mut pairs = Pairs::none(old.len(), new.len());
         if old.len() == new.len() {
             for place in 0..old.len() {
                 pairs.take(place, place);
             }
         } else {
-            let keys = (keys_of(self.alloc, &old)?, keys_of(self.alloc, &new)?);
+            let keys = (keys_of(&old), keys_of(&new));
             for texts in [3, 2, 1] {
                 pairs.add(&keys.0, &keys.1, texts);
             }
@@ -134,7 +131,6 @@ impl<'a> Changes<'a> {
                 self.add_element(was, number, None, (None, Some(*element)));
             }
         }
-        Ok(())
     }
 
     /// Adds what differs between two elements of a value, of which the first one has a place among others, or that one
@@ -227,11 +223,9 @@ impl<'a> Changes<'a> {
     }
 
     /// Other differences, and these after them.
-    pub(super) fn after<'d>(&'d self, others: Vec<Difference<'d>>) -> Result<Vec<Difference<'d>>, AllocError> {
+    pub(super) fn after<'d>(&'d self, others: Vec<Difference<'d>>) -> Vec<Difference<'d>> {
         let mut differences = others;
-        let (Some(text), false) = (self.text.printed(), self.is_refused) else {
-            return Err(AllocError);
-        };
+        let text = text_of(&self.text);
         for (object, part, change) in self.list.iter() {
             let (alone, shared) = (Title::Alone(*object), Title::Object(*object));
             let (side, name, old, new, code) = match *change {
@@ -242,7 +236,7 @@ impl<'a> Changes<'a> {
                 }
                 Change::Whole((start, middle, end), (first, last)) => {
                     let (old, new) = (text.get(start..middle), text.get(middle..end));
-                    let code = self.code.between(first, last).ok_or(AllocError)?;
+                    let code = self.code.between(first, last);
                     (shared, object.kind, old, new, code)
                 }
             };
@@ -256,33 +250,26 @@ impl<'a> Changes<'a> {
                 was: None,
                 place: None,
                 code,
-            })?;
+            });
         }
-        Ok(differences)
+        differences
     }
 }
 
 /// The differences between the objects of two tables, less those of objects of the kinds that are ignored.
 pub(super) fn changes_of<'a>(
-    alloc: Global,
     old: Side<'a>,
     new: Side<'a>,
     names: (&Names<'_>, &Names<'_>),
     ignored: &[&str],
-) -> Result<Changes<'a>, AllocError> {
-    let compared = Compared { alloc, old: old.table, new: new.table, names };
-    let (old, new) = (objects_of(alloc, old), objects_of(alloc, new));
-    let mut pairs = Pairs::none(alloc, old.known.len(), new.known.len())?;
-    let keys = (old.keys(alloc)?, new.keys(alloc)?);
+) -> Changes<'a> {
+    let compared = Compared { old: old.table, new: new.table, names };
+    let (old, new) = (objects_of(old), objects_of(new));
+    let mut pairs = Pairs::none(old.known.len(), new.known.len());
+    let keys = (old.keys(), new.keys());
     pairs.add(&keys.0, &keys.1, 2);
     pairs.add(&keys.0, &keys.1, 1);
-    let mut changes = Changes {
-        list: Vec::new(alloc),
-        text: Out::new(alloc),
-        code: CodeChanges::new(alloc),
-        alloc,
-        is_refused: old.is_refused || new.is_refused,
-    };
+    let mut changes = Changes { list: Vec::new(), text: Out::new(Global), code: CodeChanges::new() };
     changes.add_all(compared, &old.known, &new.known, &pairs, ignored);
-    Ok(changes)
+    changes
 }

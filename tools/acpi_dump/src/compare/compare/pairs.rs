@@ -1,8 +1,6 @@
 //! Which structures or objects of two tables are the same.
 
 use crate::compare::outline::Side;
-use acpi_programs::rattle::alloc::{AllocError, Global};
-use acpi_programs::rattle::{Vec, vec};
 use acpi_programs::walk::walk::DEEPEST;
 use core::cmp::Ordering;
 
@@ -21,8 +19,8 @@ pub(super) struct Pairs {
 
 impl Pairs {
     /// No pairs, of this many in the first table and in the second one.
-    pub(super) fn none(alloc: Global, old: usize, new: usize) -> Result<Pairs, AllocError> {
-        Ok(Pairs { others: vec![in alloc; None; old]?, firsts: vec![in alloc; None; new]?, count: 0 })
+    pub(super) fn none(old: usize, new: usize) -> Pairs {
+        Pairs { others: vec![None; old], firsts: vec![None; new], count: 0 }
     }
 
     /// The number of the one of the second table that is the same as one of the first.
@@ -108,14 +106,8 @@ impl Pairs {
 /// By what the structures of a table are paired that aren't yet, and that are in one that is, or objects: their names,
 /// and their contents, or else the fields that tell them apart. What they are in is known by its number in the first
 /// table.
-fn keys_of<'a>(
-    alloc: Global,
-    side: Side<'a>,
-    pairs: &Pairs,
-    is_first: bool,
-    by_contents: bool,
-) -> Result<Vec<Key<'a>>, AllocError> {
-    let mut keys = Vec::new(alloc);
+fn keys_of<'a>(side: Side<'a>, pairs: &Pairs, is_first: bool, by_contents: bool) -> Vec<Key<'a>> {
+    let mut keys = Vec::new();
     for (number, part) in side.parts.iter().enumerate() {
         let outer = if part.own.is_some() { 0 } else { part.parent };
         let (pair, outer) = if is_first {
@@ -125,24 +117,24 @@ fn keys_of<'a>(
         };
         if let (None, Some(outer)) = (pair, outer) {
             let (one, other) = if by_contents { (side.contents(number), "") } else { side.ids(part) };
-            keys.push((outer, part.name, one, other, number))?;
+            keys.push((outer, part.name, one, other, number));
         }
     }
-    keys.sort()?;
-    Ok(keys)
+    keys.sort();
+    keys
 }
 
 /// Which structures of two tables are the same: of those that are in the same one and have the same name first those
 /// with the same contents, then those that are known by the same fields, and then the others that are known by the same
 /// first one, in their order. The tables themselves are the same.
-pub(super) fn pairs_of(alloc: Global, old: Side<'_>, new: Side<'_>) -> Result<Pairs, AllocError> {
-    let mut pairs = Pairs::none(alloc, old.parts.len(), new.parts.len())?;
+pub(super) fn pairs_of(old: Side<'_>, new: Side<'_>) -> Pairs {
+    let mut pairs = Pairs::none(old.parts.len(), new.parts.len());
     pairs.take(0, 0);
     for _ in 0..DEEPEST {
         let before = pairs.count;
         for by_contents in [true, false] {
-            let olds = keys_of(alloc, old, &pairs, true, by_contents)?;
-            let news = keys_of(alloc, new, &pairs, false, by_contents)?;
+            let olds = keys_of(old, &pairs, true, by_contents);
+            let news = keys_of(new, &pairs, false, by_contents);
             pairs.add(&olds, &news, 3);
             if !by_contents {
                 pairs.add(&olds, &news, 2);
@@ -152,5 +144,5 @@ pub(super) fn pairs_of(alloc: Global, old: Side<'_>, new: Side<'_>) -> Result<Pa
             break;
         }
     }
-    Ok(pairs)
+    pairs
 }

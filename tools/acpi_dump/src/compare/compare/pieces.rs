@@ -2,8 +2,6 @@
 
 use super::pairs::Key;
 use acpi_programs::rattle::Pieces;
-use acpi_programs::rattle::Vec;
-use acpi_programs::rattle::alloc::{AllocError, Global};
 
 /// A text up to the first of a mark that is outside of quotes and brackets, with a blank after it, and the rest.
 pub(super) fn cut_piece(text: &str, mark: u8) -> (&str, &str) {
@@ -29,18 +27,18 @@ pub(super) fn cut_piece(text: &str, mark: u8) -> (&str, &str) {
 }
 
 /// The elements of a value.
-pub(super) fn elements_of<'a>(alloc: Global, value: &'a str) -> Result<Vec<&'a str>, AllocError> {
-    let mut elements = Vec::new(alloc);
+pub(super) fn elements_of<'a>(value: &'a str) -> Vec<&'a str> {
+    let mut elements = Vec::new();
     let mut rest = value.trim_ascii();
     for _ in 0..rest.len() {
         if rest.is_empty() {
             break;
         }
         let (element, others) = cut_piece(rest, b';');
-        elements.push(element)?;
+        elements.push(element);
         rest = others;
     }
-    Ok(elements)
+    elements
 }
 
 /// What is in the braces of a package, or all of another element.
@@ -83,13 +81,13 @@ pub(super) fn step_of(old: (&str, &str), new: (&str, &str)) -> (bool, bool) {
 }
 
 /// By what elements are paired: their first words, what they begin with, and all of them.
-pub(super) fn keys_of<'a>(alloc: Global, elements: &[&'a str]) -> Result<Vec<Key<'a>>, AllocError> {
-    let mut keys = Vec::new(alloc);
+pub(super) fn keys_of<'a>(elements: &[&'a str]) -> Vec<Key<'a>> {
+    let mut keys = Vec::new();
     for (number, element) in elements.iter().enumerate() {
         let element = *element;
         let (word, _) = element.two_pieces(' ').unwrap_or((element, ""));
-        keys.push((0, word, head_of(element), element, number))?;
+        keys.push((0, word, head_of(element), element, number));
     }
-    keys.sort()?;
-    Ok(keys)
+    keys.sort();
+    keys
 }

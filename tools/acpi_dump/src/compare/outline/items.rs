@@ -1,10 +1,10 @@
 //! How the structures and items of a table are gathered.
 
+use crate::text::text_of;
 use super::{BYTES, Item, MALFORMED, Part, Side};
 use acpi_programs::input::entries::Entry;
 use acpi_programs::rattle::Pieces;
-use acpi_programs::rattle::Vec;
-use acpi_programs::rattle::alloc::{AllocError, Global};
+use acpi_programs::rattle::alloc::Global;
 use acpi_programs::walk::aml::{Ends, Object, Value};
 use acpi_programs::walk::fault::Fault;
 use acpi_programs::walk::fields::{print_hex, print_meaning, print_path, print_value};
@@ -32,8 +32,6 @@ pub struct Items<'t> {
     values: Out,
     /// Up to where AML is understood, if that isn't all.
     end: Option<u64>,
-    /// Whether memory was refused.
-    is_refused: bool,
 }
 
 /// Whether a name ends with one of these.
@@ -65,7 +63,7 @@ impl Items<'_> {
             middle: places.1,
             end: self.values.length(),
         };
-        self.is_refused |= self.items.push(item).is_err();
+        self.items.push(item);
     }
 
     /// A structure in the one that is open.
@@ -108,7 +106,7 @@ impl Items<'_> {
     /// Adds a structure, which is open then.
     fn enter(&mut self, part: Part) {
         self.open = self.parts.len();
-        self.is_refused |= self.parts.push(part).is_err();
+        self.parts.push(part);
     }
 
     /// The place of a new structure among the ones of its name in the one that is open.
@@ -140,18 +138,10 @@ impl Items<'_> {
         }
     }
 
-    /// These structures and items, if memory sufficed for them and their values.
-    pub fn side(&self) -> Result<Side<'_>, AllocError> {
-        match self.values.printed() {
-            Some(values) if !self.is_refused => Ok(Side {
-                table: self.table,
-                parts: self.parts.as_slice(),
-                items: self.items.as_slice(),
-                values,
-                end: self.end,
-            }),
-            _ => Err(AllocError),
-        }
+    /// These structures and items.
+    pub fn side(&self) -> Side<'_> {
+        let values = text_of(&self.values);
+        Side { table: self.table, parts: &self.parts, items: &self.items, values, end: self.end }
     }
 }
 
@@ -221,7 +211,6 @@ impl ShowObjects for Items<'_> {
     fn ends(&mut self, offset: u64, why: Ends) {
         self.leave(u64::MAX);
         self.end = Some(offset);
-        self.is_refused |= matches!(why, Ends::OutOfMemory);
         let start = self.values.length();
         self.values.text("the list ends: ");
         why.print(&mut self.values);
@@ -231,19 +220,18 @@ impl ShowObjects for Items<'_> {
 }
 
 /// The structures and items of a table.
-pub fn items_of<'t>(alloc: Global, entry: &Entry<'t>) -> Items<'t> {
+pub fn items_of<'t>(entry: &Entry<'t>) -> Items<'t> {
     let mut items = Items {
         table: entry.bytes,
-        parts: Vec::new(alloc),
-        items: Vec::new(alloc),
+        parts: Vec::new(),
+        items: Vec::new(),
         open: 0,
-        values: Out::new(alloc),
+        values: Out::new(Global),
         end: None,
-        is_refused: false,
     };
     items.enter(items.part(0, 0, ""));
     if let Some(signature) = entry.signature() {
-        walk_with_objects(alloc, signature, entry.bytes, &mut items);
+        walk_with_objects(Global, signature, entry.bytes, &mut items);
     }
     items.leave(u64::MAX);
     items.end();

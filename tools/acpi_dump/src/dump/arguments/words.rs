@@ -5,12 +5,12 @@ use crate::dump::options::refuse_option;
 use acpi_programs::input::errors::{Log, Stop};
 
 /// The word of an option, or no letters, which are no value of any, if it isn't there.
-pub(super) fn word_of<'w>(matches: &ArgMatches<'w>, option: &str) -> &'w str {
+pub(super) fn word_of(matches: &ArgMatches, option: &str) -> &'static str {
     matches.get_str(option).unwrap_or("")
 }
 
 /// The value of an option, if it is there and has letters.
-pub(super) fn name_of<'w>(matches: &ArgMatches<'w>, option: &str) -> Option<&'w str> {
+pub(super) fn name_of(matches: &ArgMatches, option: &str) -> Option<&'static str> {
     match word_of(matches, option) {
         "" => None,
         name => Some(name),
@@ -21,7 +21,7 @@ pub(super) fn name_of<'w>(matches: &ArgMatches<'w>, option: &str) -> Option<&'w 
 ///
 /// Fails, after printing that, if the word is there and has none.
 pub(super) fn checked<T: Copy>(
-    matches: &ArgMatches<'_>,
+    matches: &ArgMatches,
     log: &mut Log,
     option: &'static str,
     value: Option<T>,
@@ -33,7 +33,7 @@ pub(super) fn checked<T: Copy>(
 }
 
 /// Whether an option is there that takes no value, or may have one.
-pub(super) fn is_there(matches: &ArgMatches<'_>, option: &str) -> bool {
+pub(super) fn is_there(matches: &ArgMatches, option: &str) -> bool {
     match matches.get_str(option) {
         Some("false") | None => matches.get_flag(option),
         Some(_) => true,
@@ -60,6 +60,6 @@ pub(super) fn root_words<'w>(words: &'w [&'w str]) -> Option<(&'w str, &'w [&'w 
 }
 
 /// The words of an option that may come several times.
-pub(super) fn words_of<'m>(matches: &'m ArgMatches<'_>, option: &str) -> &'m [&'m str] {
+pub(super) fn words_of<'m>(matches: &'m ArgMatches, option: &str) -> &'m [&'m str] {
     matches.get_strs(option).unwrap_or(&[])
 }

@@ -17,19 +17,19 @@ pub(crate) fn print_compared(
     out: &mut Out,
     log: &mut Log,
 ) -> Result<u8, Stop> {
-    let (alloc, other) = (output.alloc, output.second());
+    let other = output.second();
     let old = &tables_in(output, first, log)?.entries;
     let new = &tables_in(other, second, log)?.entries;
     let ignored = output.request.ignored;
     let differ = if output.request.is_json {
         let mut document = output.document("tables");
-        let differ = compare(alloc, old, new, ignored, &mut document)?;
-        document.print("compare", out)?;
+        let differ = compare(old, new, ignored, &mut document);
+        document.print("compare", out);
         differ
     } else {
         let names = (output.name(), other.name());
         let lines = &mut DifferenceLines { names, out };
-        compare(alloc, old, new, ignored, lines)?
+        compare(old, new, ignored, lines)
     };
     if differ && output.request.is_exit_code {
         return Ok(1);

@@ -7,6 +7,7 @@ use crate::summary::document::Document;
 use acpi_programs::input::candidates::{Candidate, candidates};
 use acpi_programs::input::errors::{Log, Stop, fail};
 use acpi_programs::input::gather::Input;
+use acpi_programs::rattle::alloc::Global;
 use acpi_programs::walk::out::Out;
 
 /// Prints a line for each RSDP: its address, what it points to, and what the checks say.
@@ -56,11 +57,11 @@ pub(super) fn print_found(output: Output<'_>, input: &Input, out: &mut Out, log:
         let why = "tables, not memory: there is no RSDP to find";
         return Err(fail(log, output.name(), &why));
     };
-    let found = &candidates(output.alloc, &memory_of(output, image, log)?)?;
+    let found = &candidates(Global, &memory_of(output, image, log)?)?;
     if output.request.is_json {
         let mut document = output.document("rsdps");
         add_candidates(&mut document, found);
-        document.print("find", out)?;
+        document.print("find", out);
     } else {
         print_candidates(found, out);
     }

@@ -5,6 +5,7 @@ use super::read::{Tables, tables_in};
 use super::sarif::print_sarif;
 use super::{Output, strict_status};
 use crate::check::findings_of;
+use crate::check::rules::{Finding, Severity, counts_of};
 use crate::dump::arguments::View;
 use crate::dump::values::{Format, Order};
 use crate::json::Token;
@@ -12,30 +13,28 @@ use crate::summary::document::Document;
 use acpi_programs::input::entries::{Entry, Place, own_signature, print_name};
 use acpi_programs::input::errors::{Log, Stop};
 use acpi_programs::input::gather::Input;
-use acpi_programs::input::judgement::{Finding, Judgement, Severity, counts_of};
-use acpi_programs::rattle::alloc::AllocError;
 use acpi_programs::walk::out::Out;
 
 /// Prints where a finding is, and its message.
-pub(super) fn print_finding(findings: &Judgement, finding: &Finding, entry: &Entry<'_>, out: &mut Out) {
+pub(super) fn print_finding(finding: &Finding, entry: &Entry<'_>, out: &mut Out) {
     print_name(entry, out);
     write!(out, " 0x{:04x}", finding.offset);
     if !finding.field.is_empty() {
         out.fill(" $", &[finding.field]);
     }
     out.text(": ");
-    out.text(findings.message(finding));
+    out.text(&finding.message);
 }
 
 /// Prints a line for each finding of a severity or a higher one, and how many they are and were left out.
-fn print_findings(findings: &Judgement, left_out: u64, entries: &[Entry<'_>], least: Severity, out: &mut Out) {
-    for finding in findings.list() {
+fn print_findings(findings: &[Finding], left_out: u64, entries: &[Entry<'_>], least: Severity, out: &mut Out) {
+    for finding in findings {
         let rule = finding.rule;
-        if rule.severity.rank() >= least.rank()
+        if rule.severity >= least
             && let Some(entry) = entries.get(finding.table)
         {
             out.fill("$ $: ", &[rule.severity.word(), rule.id]);
-            print_finding(findings, finding, entry, out);
+            print_finding(finding, entry, out);
             out.fill(" ($)\n", &[rule.section]);
         }
     }
@@ -49,7 +48,7 @@ fn print_findings(findings: &Judgement, left_out: u64, entries: &[Entry<'_>], le
 }
 
 /// Adds a finding.
-fn add_finding(findings: &Judgement, finding: &Finding, entry: &Entry<'_>, document: &mut Document<'_>) {
+fn add_finding(finding: &Finding, entry: &Entry<'_>, document: &mut Document<'_>) {
     let rule = finding.rule;
     document.token(Token::BeginObject);
     if let Place::Address(address) = entry.place {
@@ -61,7 +60,7 @@ fn add_finding(findings: &Judgement, finding: &Finding, entry: &Entry<'_>, docum
     if let Place::File(name) = entry.place {
         document.text("file", name);
     }
-    document.text("message", findings.message(finding));
+    document.text("message", &finding.message);
     document.number("offset", finding.offset as u64);
     let texts = [rule.id, rule.section, rule.severity.word()];
     document.texts("rule section severity", &texts);
@@ -70,12 +69,12 @@ fn add_finding(findings: &Judgement, finding: &Finding, entry: &Entry<'_>, docum
 }
 
 /// Adds the findings of a severity or a higher one.
-fn add_findings(findings: &Judgement, entries: &[Entry<'_>], least: Severity, document: &mut Document<'_>) {
-    for finding in findings.list() {
-        if finding.rule.severity.rank() >= least.rank()
+fn add_findings(findings: &[Finding], entries: &[Entry<'_>], least: Severity, document: &mut Document<'_>) {
+    for finding in findings {
+        if finding.rule.severity >= least
             && let Some(entry) = entries.get(finding.table)
         {
-            add_finding(findings, finding, entry, document);
+            add_finding(finding, entry, document);
         }
     }
 }
@@ -83,25 +82,19 @@ fn add_findings(findings: &Judgement, entries: &[Entry<'_>], least: Severity, do
 /// What rules find in tables, but for what is left out of it, and how many findings are.
 ///
 /// Fails, after printing why, if what is to be left out can't be read, or if memory runs out.
-pub(super) fn findings_in(output: Output<'_>, tables: &Tables<'_>, log: &mut Log) -> Result<(Judgement, u64), Stop> {
-    let mut findings = findings_of(&tables.machine(output.alloc))?;
-    let (accepted, all) = (output.accepted, findings.list.len());
-    findings.list = accepted.rest_of(output.alloc, &findings, &tables.entries, log)?;
-    let left_out = all.saturating_sub(findings.list.len()) as u64;
-    Ok((findings, left_out))
+pub(super) fn findings_in(output: Output<'_>, tables: &Tables<'_>, log: &mut Log) -> Result<(Vec<Finding>, u64), Stop> {
+    let findings = findings_of(&tables.machine());
+    let rest = output.accepted.rest_of(&findings, &tables.entries, log)?;
+    let left_out = (findings.len() - rest.len()) as u64;
+    Ok((rest, left_out))
 }
 
 /// Puts findings into the order in which they are printed.
-///
-/// Fails if memory runs out.
-fn put_in_order(findings: &mut Judgement, order: Order) -> Result<(), AllocError> {
+fn put_in_order(findings: &mut [Finding], order: Order) {
     match order {
-        Order::Tables => Ok(()),
-        Order::Rules => findings.list.sort_by_key(|it| it.rule.id),
-        Order::Severities => {
-            let worst = Severity::Error.rank();
-            findings.list.sort_by_key(|it| worst.saturating_sub(it.rule.severity.rank()))
-        }
+        Order::Tables => {}
+        Order::Rules => findings.sort_by_key(|it| it.rule.id),
+        Order::Severities => findings.sort_by_key(|it| std::cmp::Reverse(it.rule.severity)),
     }
 }
 
@@ -111,18 +104,18 @@ fn put_in_order(findings: &mut Judgement, order: Order) -> Result<(), AllocError
 pub(super) fn print_judged(output: Output<'_>, input: &Input, out: &mut Out, log: &mut Log) -> Result<u8, Stop> {
     let tables = &tables_in(output, input, log)?;
     let (mut findings, left_out) = findings_in(output, tables, log)?;
-    put_in_order(&mut findings, output.request.order)?;
+    put_in_order(&mut findings, output.request.order);
     let (findings, entries) = (&findings, tables.entries.as_slice());
     let least = output.request.least.unwrap_or(Severity::Note);
     match output.request.format {
-        Format::Sarif => print_sarif(output, findings, entries, out)?,
-        Format::Junit => print_junit(output, findings, entries, out)?,
+        Format::Sarif => print_sarif(output, findings, entries, out),
+        Format::Junit => print_junit(output, findings, entries, out),
         Format::Lines if output.request.is_json => {
             let mut document = output.document("findings");
             add_findings(findings, entries, least, &mut document);
             document.end_list();
             document.number("left_out", left_out);
-            document.end("check", out)?;
+            document.end("check", out);
         }
         Format::Lines => print_findings(findings, left_out, entries, least, out),
     }
@@ -130,7 +123,7 @@ pub(super) fn print_judged(output: Output<'_>, input: &Input, out: &mut Out, log
 }
 
 /// The status if all is shown: 4 if something is bad and that is asked for, and else as of any other view.
-pub(super) fn status_of(output: Output<'_>, entries: &[Entry<'_>], findings: &Judgement) -> u8 {
+pub(super) fn status_of(output: Output<'_>, entries: &[Entry<'_>], findings: &[Finding]) -> u8 {
     let bad = output.request.least.unwrap_or(Severity::Error);
     if matches!(output.request.view, View::Findings) && counts_of(findings, bad) != [0, 0, 0] {
         return 4;

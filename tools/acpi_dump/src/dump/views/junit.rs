@@ -1,12 +1,12 @@
 //! What rules find as the report of a test run, in the XML of JUnit that CI systems read: each rule is a test.
 
+use crate::text::printed;
 use super::Output;
 use super::judged::print_finding;
-use crate::check::rules::rules;
+use crate::check::rules::{Finding, Rule, Severity, all};
 use crate::page::html::print_escaped;
 use acpi_programs::input::entries::Entry;
-use acpi_programs::input::judgement::{Judgement, Rule, Severity};
-use acpi_programs::rattle::alloc::AllocError;
+use acpi_programs::rattle::alloc::Global;
 use acpi_programs::walk::out::Out;
 
 /// Prints a text in an attribute or between tags.
@@ -15,18 +15,12 @@ fn print_text(text: &str, out: &mut Out) {
 }
 
 /// Prints a line for each finding of a rule, as text between tags.
-fn print_lines(rule: &Rule, findings: &Judgement, entries: &[Entry<'_>], out: &mut Out) {
-    let mut line = Out::new(out.allocator());
-    for finding in findings.list() {
+fn print_lines(rule: &Rule, findings: &[Finding], entries: &[Entry<'_>], out: &mut Out) {
+    for finding in findings {
         if finding.rule.id == rule.id
             && let Some(entry) = entries.get(finding.table)
         {
-            line.clear();
-            print_finding(findings, finding, entry, &mut line);
-            match line.printed() {
-                Some(line) => print_text(line, out),
-                None => out.refuse(),
-            }
+            print_text(&printed(|line| print_finding(finding, entry, line)), out);
             out.text("\n");
         }
     }
@@ -55,37 +49,24 @@ fn print_test(rule: &Rule, is_bad: bool, lines: &Out, out: &mut Out) {
 }
 
 /// Prints the report: a test for each rule of at least the least severity. What makes the status 4 makes a test fail.
-///
-/// Fails if memory runs out.
-pub(super) fn print_junit(
-    output: Output<'_>,
-    findings: &Judgement,
-    entries: &[Entry<'_>],
-    out: &mut Out,
-) -> Result<(), AllocError> {
-    let rules = &rules(output.alloc)?;
-    let shown = output.request.least.unwrap_or(Severity::Note).rank();
-    let bad = output.request.least.unwrap_or(Severity::Error).rank();
+pub(super) fn print_junit(output: Output<'_>, findings: &[Finding], entries: &[Entry<'_>], out: &mut Out) {
+    let shown = output.request.least.unwrap_or(Severity::Note);
+    let bad = output.request.least.unwrap_or(Severity::Error);
     let (mut tests, mut failures) = (0u64, 0u64);
-    let (mut printed, mut lines) = (Out::new(output.alloc), Out::new(output.alloc));
-    for rule in rules {
-        let rank = rule.severity.rank();
-        if rank < shown {
+    let (mut printed, mut lines) = (Out::new(Global), Out::new(Global));
+    for rule in all() {
+        if rule.severity < shown {
             continue;
         }
         lines.clear();
         print_lines(rule, findings, entries, &mut lines);
-        tests = tests.saturating_add(1);
-        failures = failures.saturating_add((lines.length() > 0 && rank >= bad) as u64);
-        print_test(rule, rank >= bad, &lines, &mut printed);
-    }
-    if lines.printed().is_none() {
-        out.refuse();
+        tests += 1;
+        failures += (lines.length() > 0 && rule.severity >= bad) as u64;
+        print_test(rule, rule.severity >= bad, &lines, &mut printed);
     }
     out.text("<?xml version=\"1.0\" encoding=\"UTF-8\"?>\n<testsuites>\n  <testsuite name=\"acpi_dump --check ");
     print_text(output.name(), out);
     out.words("\" tests=\"%\" failures=\"%\" errors=\"0\">\n", &[tests, failures]);
     out.append(&printed);
     out.text("  </testsuite>\n</testsuites>\n");
-    Ok(())
 }

@@ -1,5 +1,6 @@
 //! A page of an input, or of what differs between two.
 
+use crate::text::{granted, text_of};
 use super::judged::{findings_in, status_of};
 use super::read::{Tables, tables_in};
 use super::{Output, strict_status};
@@ -9,12 +10,10 @@ use acpi_programs::input::errors::{Log, Stop};
 use acpi_programs::input::extract::save_file;
 use acpi_programs::input::gather::Input;
 use acpi_programs::input::sources::Sources;
-use acpi_programs::rattle::alloc::AllocError;
+use acpi_programs::rattle::alloc::Global;
 use acpi_programs::walk::out::Out;
 
 /// Prints the page of tables, beside the tables of a first input if there is one. Returns the status.
-///
-/// Fails if memory runs out.
 fn print_judged_page(
     output: Output<'_>,
     first: Option<Given<'_>>,
@@ -24,14 +23,9 @@ fn print_judged_page(
     log: &mut Log,
 ) -> Result<u8, Stop> {
     let (findings, _) = &findings_in(output, tables, log)?;
-    let source = Source {
-        alloc: output.alloc,
-        input: Given { names, entries: &tables.entries },
-        first,
-        ignored: output.request.ignored,
-        findings,
-    };
-    print_page(source, page)?;
+    let source =
+        Source { input: Given { names, entries: &tables.entries }, first, ignored: output.request.ignored, findings };
+    print_page(source, page);
     Ok(status_of(output, &tables.entries, findings))
 }
 
@@ -65,14 +59,12 @@ fn save_text<S: Sources, T: Storage>(
     storage: &mut T,
     out: &mut Out,
     log: &mut Log,
-) -> Result<(), AllocError> {
+) {
     if file == "-" {
         out.text(text);
     } else {
-        let bytes = text.as_bytes();
-        save_file(output.saving(), file, bytes, sources, storage, log)?;
+        granted(save_file(output.saving(), file, text.as_bytes(), sources, storage, log));
     }
-    Ok(())
 }
 
 /// Saves the page of an input as a file, or that of what differs between two, the second one beside it. The file `-` is
@@ -89,11 +81,8 @@ pub(crate) fn save_page<S: Sources, T: Storage>(
     out: &mut Out,
     log: &mut Log,
 ) -> Result<u8, Stop> {
-    let mut page = Out::new(output.alloc);
+    let mut page = Out::new(Global);
     let status = print_any_page(output, input, second, &mut page, log)?;
-    let Some(text) = page.printed() else {
-        return Err(Stop::OutOfMemory);
-    };
-    save_text(output, file, text, sources, storage, out, log)?;
+    save_text(output, file, text_of(&page), sources, storage, out, log);
     Ok(status)
 }

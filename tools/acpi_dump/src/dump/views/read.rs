@@ -9,8 +9,7 @@ use acpi_programs::input::candidates::{candidates, ebda_of, starts};
 use acpi_programs::input::entries::{Entry, bytes_from, entries_of, entries_of_files, entry_at, rsdp_at};
 use acpi_programs::input::errors::{At, Log, Stop, begin, fail, fail_with};
 use acpi_programs::input::gather::Input;
-use acpi_programs::rattle::Vec;
-use acpi_programs::rattle::alloc::{AllocError, Global};
+use acpi_programs::rattle::alloc::Global;
 use zacpi::AcpiTables;
 use zacpi::sdt::{Signature, field};
 
@@ -25,19 +24,19 @@ pub(super) struct Tables<'i> {
 
 impl<'i> Tables<'i> {
     /// The tables, and after them the RSDP of a memory if it is requested.
-    pub(super) fn with_pointer(self, request: &Request<'_>) -> Result<Vec<Entry<'i>>, AllocError> {
+    pub(super) fn with_pointer(self, request: &Request<'_>) -> Vec<Entry<'i>> {
         let Tables { mut entries, pointer, .. } = self;
         if let Some(pointer) = pointer
             && request.names_rsdp()
         {
-            entries.push(pointer)?;
+            entries.push(pointer);
         }
-        Ok(entries)
+        entries
     }
 
     /// The machine whose tables they are.
-    pub(super) fn machine(&self, alloc: Global) -> Machine<'_> {
-        Machine { alloc, entries: &self.entries, rsdp: self.rsdp, rsdt: self.rsdt }
+    pub(super) fn machine(&self) -> Machine<'_> {
+        Machine { entries: &self.entries, rsdp: self.rsdp, rsdt: self.rsdt }
     }
 }
 
@@ -45,7 +44,7 @@ impl<'i> Tables<'i> {
 ///
 /// Fails, after printing why, if it encodes none.
 pub(super) fn memory_of<'i>(output: Output<'_>, image: &'i [u8], log: &mut Log) -> Result<MemoryImage<'i>, Stop> {
-    match MemoryImage::from_bytes(output.alloc, image) {
+    match MemoryImage::from_bytes(Global, image) {
         Ok(memory) => Ok(memory),
         Err(refusal) => Err(fail_with(log, output.name(), &refusal)),
     }
@@ -70,7 +69,7 @@ fn start_of(output: Output<'_>, memory: &MemoryImage<'_>, log: &mut Log) -> Resu
         return Ok(root);
     }
     let ebda = ebda_of(bytes_from(memory, 0x40e));
-    let addresses = &starts(output.alloc, &candidates(output.alloc, memory)?, ebda)?;
+    let addresses = &starts(Global, &candidates(Global, memory)?, ebda)?;
     let [address, others @ ..] = addresses.as_slice() else {
         let why = "no valid RSDP: --find shows those that there are, --start says where to begin";
         return Err(fail(log, output.name(), &why));
@@ -104,7 +103,7 @@ pub(super) fn open<'h, 'i>(
 /// Fails, after printing why, if there are none.
 pub(super) fn tables_in<'i>(output: Output<'_>, input: &'i Input, log: &mut Log) -> Result<Tables<'i>, Stop> {
     match input {
-        Input::Tables(files) => Ok(tables_of_files(entries_of_files(output.alloc, files)?)),
+        Input::Tables(files) => Ok(tables_of_files(entries_of_files(Global, files)?.to_vec())),
         Input::Memory(image) => tables_of_memory(output, &memory_of(output, image, log)?, log),
     }
 }
@@ -128,14 +127,15 @@ fn tables_of_files(entries: Vec<Entry<'_>>) -> Tables<'_> {
 /// The tables of a memory, whose RSDP may give a valid RSDT beside an XSDT.
 fn tables_of_memory<'i>(output: Output<'_>, memory: &MemoryImage<'i>, log: &mut Log) -> Result<Tables<'i>, Stop> {
     let (root, tables) = &open(output, memory, log)?;
-    let mut tables = Tables { entries: entries_of(output.alloc, memory, tables)?, pointer: None, rsdp: &[], rsdt: &[] };
+    let mut tables =
+        Tables { entries: entries_of(Global, memory, tables)?.to_vec(), pointer: None, rsdp: &[], rsdt: &[] };
     if let Root::Rsdp { address } = root {
         tables.pointer = Some(rsdp_at(memory, *address));
         let rsdp = bytes_from(memory, *address);
         tables.rsdp = rsdp.get(..36).unwrap_or(&[]);
         // Revision, RsdtAddress.
         let (revision, address) = (field(rsdp, 15, 1), field(rsdp, 16, 4));
-        let beside = entry_at(output.alloc, memory, address, Some(Signature::RSDT));
+        let beside = entry_at(Global, memory, address, Some(Signature::RSDT));
         if revision != 0 && !beside.status.is_invalid() {
             tables.rsdt = beside.bytes;
         }

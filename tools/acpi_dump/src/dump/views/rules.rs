@@ -1,17 +1,15 @@
 //! The rules, or one with what to do about it, as lines and as documents.
 
 use super::Output;
-use crate::check::advice::advice_of;
-use crate::check::rules::rules;
+use crate::check::rules::{Rule, all};
 use crate::json::Token;
 use crate::summary::document::Document;
 use acpi_programs::input::errors::Stop;
-use acpi_programs::input::judgement::Rule;
 use acpi_programs::walk::out::Out;
 
 /// Adds a rule.
 fn add_rule(rule: &Rule, document: &mut Document<'_>) {
-    let texts = [advice_of(rule.id), rule.id, rule.section, rule.severity.word(), rule.what];
+    let texts = [rule.advice, rule.id, rule.section, rule.severity.word(), rule.what];
     document.token(Token::BeginObject);
     document.texts("advice rule section severity what", &texts);
     document.token(Token::EndObject);
@@ -26,12 +24,10 @@ fn print_rule(rule: &Rule, out: &mut Out) {
 /// Prints a rule, and what to do about it.
 fn print_whole(rule: &Rule, out: &mut Out) {
     print_rule(rule, out);
-    out.fill("$\n", &[advice_of(rule.id)]);
+    out.fill("$\n", &[rule.advice]);
 }
 
 /// Prints the rules, or the one that is named.
-///
-/// Fails if memory runs out.
 pub(crate) fn print_rules(output: Output<'_>, out: &mut Out) -> Result<u8, Stop> {
     let mut document = output.document("rules");
     let (named, is_json) = (output.request.rule, output.request.is_json);
@@ -39,7 +35,7 @@ pub(crate) fn print_rules(output: Output<'_>, out: &mut Out) -> Result<u8, Stop>
         Some(rule) if is_json => add_rule(rule, &mut document),
         Some(rule) => print_whole(rule, out),
         None => {
-            for rule in &rules(output.alloc)? {
+            for rule in all() {
                 if is_json {
                     add_rule(rule, &mut document);
                 } else {
@@ -49,7 +45,7 @@ pub(crate) fn print_rules(output: Output<'_>, out: &mut Out) -> Result<u8, Stop>
         }
     }
     if is_json {
-        document.print("rules", out)?;
+        document.print("rules", out);
     }
     Ok(0)
 }

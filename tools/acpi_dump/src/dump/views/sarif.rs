@@ -2,14 +2,13 @@
 //!
 //! The members of an object come in the order of their names.
 
+use crate::text::printed;
 use super::Output;
-use crate::check::rules::rules;
+use crate::check::rules::{Finding, Rule, Severity, all};
 use crate::json::Token;
 use crate::summary::document::Document;
 use acpi_programs::input::entries::{Entry, Place, own_signature};
-use acpi_programs::input::judgement::{Finding, Judgement, Rule, Severity};
 use acpi_programs::rattle::Pieces;
-use acpi_programs::rattle::alloc::AllocError;
 use acpi_programs::walk::fields::print_text;
 use acpi_programs::walk::language::next_word;
 use acpi_programs::walk::out::Out;
@@ -36,25 +35,20 @@ fn page_of(section: &str) -> Option<&'static str> {
     None
 }
 
-/// Prints a file's name as the relative reference of a URI (RFC 3986, sections 2.1 and 4.2).
-fn print_reference(name: &str, out: &mut Out) {
-    for byte in name.as_bytes() {
-        if byte.is_ascii_alphanumeric() || b"-._~/".contains(byte) {
-            out.bytes(&[*byte]);
-        } else {
-            write!(out, "%{byte:02X}");
-        }
-    }
+/// A file's name as the relative reference of a URI (RFC 3986, sections 2.1 and 4.2).
+fn reference_of(name: &str) -> String {
+    let is_plain = |byte: u8| byte.is_ascii_alphanumeric() || b"-._~/".contains(&byte);
+    name.bytes()
+        .map(|byte| if is_plain(byte) { char::from(byte).to_string() } else { format!("%{byte:02X}") })
+        .collect()
 }
 
 /// Adds what a rule is.
-fn add_rule(output: Output<'_>, rule: &Rule, document: &mut Document<'_>) {
-    let mut address = Out::new(output.alloc);
-    if let Some(page) = page_of(rule.section) {
-        address.fill("https://uefi.org/specs/ACPI/6.5/$.html", &[page]);
-    }
+fn add_rule(rule: &Rule, document: &mut Document<'_>) {
+    let page = page_of(rule.section);
+    let address = page.map_or_else(String::new, |page| format!("https://uefi.org/specs/ACPI/6.5/{page}.html"));
     let names = "defaultConfiguration.level help.text helpUri id shortDescription.text";
-    let texts = [rule.severity.word(), rule.section, address.printed().unwrap_or(""), rule.id, rule.what];
+    let texts = [rule.severity.word(), rule.section, &address, rule.id, rule.what];
     document.token(Token::BeginObject);
     document.texts(names, &texts);
     document.token(Token::EndObject);
@@ -70,18 +64,13 @@ fn add_number(document: &mut Document<'_>, outer: &str, name: &str, number: u64)
 /// Adds the place of a finding: in its file, or at its address in the input.
 fn add_place(output: Output<'_>, finding: &Finding, entry: &Entry<'_>, document: &mut Document<'_>) {
     let offset = finding.offset as u64;
-    let mut reference = Out::new(output.alloc);
+    let name = if let Place::File(file) = entry.place { file } else { output.name() };
     document.begin_object("physicalLocation");
-    match entry.place {
-        Place::File(file) => print_reference(file, &mut reference),
-        _ => print_reference(output.name(), &mut reference),
-    }
     if let Place::Address(address) = entry.place {
         let address = address.saturating_add(offset);
         add_number(document, "address", "absoluteAddress", address);
     }
-    let reference = reference.printed().unwrap_or("");
-    document.texts("artifactLocation.uri", &[reference]);
+    document.texts("artifactLocation.uri", &[&reference_of(name)]);
     if let Place::File(_) = entry.place {
         add_number(document, "region", "byteOffset", offset);
     }
@@ -90,15 +79,14 @@ fn add_place(output: Output<'_>, finding: &Finding, entry: &Entry<'_>, document:
 
 /// Adds the table and the field of a finding, and its place.
 fn add_location(output: Output<'_>, finding: &Finding, entry: &Entry<'_>, document: &mut Document<'_>) {
-    let mut name = Out::new(output.alloc);
-    print_text(&own_signature(entry.bytes).to_bytes(), &mut name);
+    let mut name = printed(|out| print_text(&own_signature(entry.bytes).to_bytes(), out));
     if !finding.field.is_empty() {
-        name.fill(".$", &[finding.field]);
+        name = format!("{name}.{}", finding.field);
     }
     document.token(Token::BeginObject);
     document.begin_list("logicalLocations");
     document.token(Token::BeginObject);
-    document.text("fullyQualifiedName", name.printed().unwrap_or(""));
+    document.text("fullyQualifiedName", &name);
     document.token(Token::EndObject);
     document.token(Token::EndArray);
     add_place(output, finding, entry, document);
@@ -106,45 +94,32 @@ fn add_location(output: Output<'_>, finding: &Finding, entry: &Entry<'_>, docume
 }
 
 /// Adds a finding.
-fn add_result(
-    output: Output<'_>,
-    findings: &Judgement,
-    finding: &Finding,
-    entry: &Entry<'_>,
-    document: &mut Document<'_>,
-) {
+fn add_result(output: Output<'_>, finding: &Finding, entry: &Entry<'_>, document: &mut Document<'_>) {
     document.token(Token::BeginObject);
     document.text("level", finding.rule.severity.word());
     document.begin_list("locations");
     add_location(output, finding, entry, document);
     document.token(Token::EndArray);
     document.begin_object("message");
-    document.text("text", findings.message(finding));
+    document.text("text", &finding.message);
     document.token(Token::EndObject);
     document.text("ruleId", finding.rule.id);
     document.token(Token::EndObject);
 }
 
 /// Prints the log: one run, with the findings of a severity or a higher one, and all rules.
-///
-/// Fails if memory runs out.
-pub(super) fn print_sarif(
-    output: Output<'_>,
-    findings: &Judgement,
-    entries: &[Entry<'_>],
-    out: &mut Out,
-) -> Result<(), AllocError> {
-    let least = output.request.least.unwrap_or(Severity::Note).rank();
-    let mut document = Document::of_other_form(output.alloc);
+pub(super) fn print_sarif(output: Output<'_>, findings: &[Finding], entries: &[Entry<'_>], out: &mut Out) {
+    let least = output.request.least.unwrap_or(Severity::Note);
+    let mut document = Document::of_other_form();
     document.text("$schema", SCHEMA);
     document.begin_list("runs");
     document.token(Token::BeginObject);
     document.begin_list("results");
-    for finding in findings.list() {
-        if finding.rule.severity.rank() >= least
+    for finding in findings {
+        if finding.rule.severity >= least
             && let Some(entry) = entries.get(finding.table)
         {
-            add_result(output, findings, finding, entry, &mut document);
+            add_result(output, finding, entry, &mut document);
         }
     }
     document.token(Token::EndArray);
@@ -152,8 +127,8 @@ pub(super) fn print_sarif(
     document.begin_object("driver");
     document.text("name", "acpi_dump");
     document.begin_list("rules");
-    for rule in &rules(output.alloc)? {
-        add_rule(output, rule, &mut document);
+    for rule in all() {
+        add_rule(rule, &mut document);
     }
     document.token(Token::EndArray);
     document.text("version", "1.0.0");

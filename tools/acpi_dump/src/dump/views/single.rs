@@ -1,5 +1,6 @@
 //! Single values of tables.
 
+use crate::text::printed;
 use super::Output;
 use crate::dump::wanted::{Finder, Wanted};
 use crate::json::Token;
@@ -41,20 +42,14 @@ impl ShowObjects for Raw<'_> {
 
 /// A text without the zeros at its end.
 fn without_zeros(bytes: &[u8]) -> &[u8] {
-    let mut end = 0usize;
-    for (place, byte) in bytes.iter().enumerate() {
-        if *byte != 0 {
-            end = place.saturating_add(1);
-        }
-    }
-    bytes.get(..end).unwrap_or(bytes)
+    let end = bytes.iter().rposition(|byte| *byte != 0).map_or(0, |last| last + 1);
+    &bytes[..end]
 }
 
 /// Prints what a text of other letters or a GUID means, without the spaces before it and what a GUID is called.
 fn print_end(shown: &Field<'_>, out: &mut Out) {
-    let mut meaning = Out::new(out.allocator());
-    print_meaning(shown, &mut meaning);
-    let text = meaning.printed().unwrap_or("").trim_ascii_start();
+    let meaning = printed(|out| print_meaning(shown, out));
+    let text = meaning.trim_ascii_start();
     let is_guid = matches!(shown.label.meaning, Meaning::Guid);
     match text.split_once("  ") {
         Some((digits, _)) if is_guid => out.text(digits),
@@ -63,13 +58,13 @@ fn print_end(shown: &Field<'_>, out: &mut Out) {
 }
 
 /// Shows a value of the first table that has it, and returns whether one has.
-fn show_value<S: ShowObjects>(alloc: Global, entries: &[Entry<'_>], wanted: Wanted<'_>, show: &mut S) -> bool {
+fn show_value<S: ShowObjects>(entries: &[Entry<'_>], wanted: Wanted<'_>, show: &mut S) -> bool {
     for entry in entries {
         if let Some(signature) = entry.signature()
             && entry.has(wanted.signature)
         {
             let mut finder = Finder::new(wanted, &mut *show);
-            walk_with_objects(alloc, signature, entry.bytes, &mut finder);
+            walk_with_objects(Global, signature, entry.bytes, &mut finder);
             if finder.is_found {
                 return true;
             }
@@ -89,7 +84,7 @@ fn print_lines(output: Output<'_>, words: &[&str], entries: &[Entry<'_>], out: &
         let Some(wanted) = Wanted::read(*word) else {
             continue;
         };
-        if !show_value(output.alloc, entries, wanted, &mut Raw { out: &mut *out }) {
+        if !show_value(entries, wanted, &mut Raw { out: &mut *out }) {
             tell_missing(output, *word, log);
         }
     }
@@ -103,7 +98,7 @@ fn add_values(output: Output<'_>, words: &[&str], entries: &[Entry<'_>], documen
         };
         document.token(Token::BeginObject);
         document.token(Token::Key("found"));
-        if !show_value(output.alloc, entries, wanted, &mut *document) {
+        if !show_value(entries, wanted, &mut *document) {
             document.token(Token::Null);
             tell_missing(output, *word, log);
         }
@@ -123,7 +118,7 @@ pub(super) fn print_values(
     if output.request.is_json {
         let mut document = output.document("values");
         add_values(output, words, entries, &mut document, log);
-        document.print("get", out)?;
+        document.print("get", out);
     } else {
         print_lines(output, words, entries, out, log);
     }

@@ -4,6 +4,7 @@ use super::escape::Piece::{Digits, Markup};
 use super::escape::{print_escaped, print_html};
 use super::marks::Change;
 use super::sheet::Sheet;
+use acpi_programs::rattle::alloc::Global;
 use acpi_programs::walk::out::Out;
 
 /// The run that a byte may be of: the offset of the row that shows it, and whether it differs from the first input.
@@ -51,7 +52,7 @@ fn gap_before(place: usize) -> &'static str {
 
 /// Prints bytes in hexadecimal digits and as characters, in runs if they are of a table on the page.
 pub(super) fn print_bytes(bytes: &[u8], sheet: Option<&Sheet<'_>>, out: &mut Out) {
-    let mut letters = Out::new(out.allocator());
+    let mut letters = Out::new(Global);
     let (mut offset, mut field) = (0u64, 0usize);
     for line in bytes.chunks(16) {
         write!(out, "<b>{offset:04x}</b>  ");

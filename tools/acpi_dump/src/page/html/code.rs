@@ -1,5 +1,6 @@
 //! The operations of a method, in a fold.
 
+use crate::text::{granted, printed};
 use super::escape::print_escaped;
 use super::sheet::Sheet;
 use crate::compare::compare::code::segments_of;
@@ -7,7 +8,7 @@ use crate::compare::outline::Item;
 use acpi_programs::code::text::CodeText;
 use acpi_programs::code::{Extent, list_code};
 use acpi_programs::rattle::Pieces;
-use acpi_programs::rattle::alloc::AllocError;
+use acpi_programs::rattle::alloc::Global;
 use acpi_programs::walk::out::Out;
 
 /// What is before the operations, and after them.
@@ -16,13 +17,10 @@ const BEGIN: &str = "<tr class=\"code\"><td><td colspan=\"3\"><details><summary>
 const END: &str = "</pre></details>\n";
 
 /// Prints the operations between two offsets of a table, which are in the scope of an object.
-///
-/// Fails if memory runs out.
-fn print_operations(sheet: &Sheet<'_>, item: &Item, places: (usize, usize), out: &mut Out) -> Result<(), AllocError> {
-    let alloc = out.allocator();
-    let scope = segments_of(alloc, sheet.side.digits(item))?;
+fn print_operations(sheet: &Sheet<'_>, item: &Item, places: (usize, usize), out: &mut Out) {
+    let scope = segments_of(sheet.side.digits(item));
     let extent = Extent::of(sheet.side.table, places.0, places.1);
-    list_code(alloc, sheet.names, extent, &scope, &mut CodeText { out })
+    granted(list_code(Global, sheet.names, extent, &scope, &mut CodeText { out }))
 }
 
 /// Prints the operations of the object that an item is, if that is a method.
@@ -36,14 +34,7 @@ pub(super) fn print_code(sheet: &Sheet<'_>, item: &Item, out: &mut Out) {
     if part.name != "Method" {
         return;
     }
-    let mut text = Out::new(out.allocator());
-    let places = (start as usize, end as usize);
-    if print_operations(sheet, item, places, &mut text).is_err() {
-        return out.refuse();
-    }
-    let Some(lines) = text.printed() else {
-        return out.refuse();
-    };
+    let lines = printed(|text| print_operations(sheet, item, (start as usize, end as usize), text));
     out.text(BEGIN);
     for line in lines.pieces('\n') {
         if !line.is_empty() {

@@ -3,6 +3,7 @@
 use super::ids::Id;
 use crate::compare::outline::Item;
 use acpi_programs::input::status::Status;
+use acpi_programs::rattle::alloc::Global;
 use acpi_programs::walk::out::Out;
 use zacpi::sdt::Signature;
 
@@ -53,7 +54,7 @@ pub(super) fn print_html(skeleton: &'static str, pieces: &[Piece<'_>], out: &mut
 
 /// Prints what is put in place of a `$`: all of it escaped, unless it is HTML already.
 fn print_piece(piece: Piece<'_>, out: &mut Out) {
-    let mut text = Out::new(out.allocator());
+    let mut text = Out::new(Global);
     match piece {
         Piece::Markup(html) => return out.text(html),
         Piece::Printed(html) => return out.append(html),
@@ -81,7 +82,6 @@ fn print_piece(piece: Piece<'_>, out: &mut Out) {
         Piece::Digits(number) => write!(text, "{number:x}"),
         Piece::Offset(offset) => write!(text, "{offset:04x}"),
     }
-    out.refuse_as(&text);
     print_escaped(text.since(0), out)
 }
 

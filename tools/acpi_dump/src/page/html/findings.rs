@@ -3,11 +3,11 @@
 use super::escape::Piece::{Decimal, Hex, Letters, Text};
 use super::escape::print_html;
 use super::sheet::Sheet;
-use acpi_programs::input::judgement::{Finding, Judgement, Severity, counts_of};
+use crate::check::rules::{Finding, Severity, counts_of};
 use acpi_programs::walk::out::Out;
 
 /// Prints how much rules find in tables, and what: errors first, then warnings, then notes.
-pub(super) fn print_findings(findings: &Judgement, sheets: &[Sheet<'_>], out: &mut Out) {
+pub(super) fn print_findings(findings: &[Finding], sheets: &[Sheet<'_>], out: &mut Out) {
     let [notes, warnings, errors] = counts_of(findings, Severity::Note);
     let counts = [errors as u64, warnings as u64, notes as u64];
     out.words(
@@ -15,15 +15,15 @@ pub(super) fn print_findings(findings: &Judgement, sheets: &[Sheet<'_>], out: &m
          <ol class=\"finds\">\n",
         &counts,
     );
-    if findings.list().is_empty() {
+    if findings.is_empty() {
         out.text("<li>Nothing was found.\n");
     }
-    for rank in [2usize, 1, 0] {
-        for (number, finding) in findings.list().iter().enumerate() {
-            if finding.rule.severity.rank() == rank
+    for severity in [Severity::Error, Severity::Warning, Severity::Note] {
+        for (number, finding) in findings.iter().enumerate() {
+            if finding.rule.severity == severity
                 && let Some(sheet) = sheets.get(finding.table)
             {
-                print_finding(findings, number, finding, sheet, out);
+                print_finding(number, finding, sheet, out);
             }
         }
     }
@@ -31,7 +31,7 @@ pub(super) fn print_findings(findings: &Judgement, sheets: &[Sheet<'_>], out: &m
 }
 
 /// Prints what a rule finds in a table, with a link to the field.
-fn print_finding(findings: &Judgement, number: usize, finding: &Finding, sheet: &Sheet<'_>, out: &mut Out) {
+fn print_finding(number: usize, finding: &Finding, sheet: &Sheet<'_>, out: &mut Out) {
     let (rule, offset) = (finding.rule, finding.offset as u64);
     let word = Text(rule.severity.word());
     let gap = if finding.field.is_empty() { "" } else { " " };
@@ -47,7 +47,7 @@ fn print_finding(findings: &Judgement, number: usize, finding: &Finding, sheet: 
             Hex(offset),
             Text(gap),
             Text(finding.field),
-            Text(findings.message(finding)),
+            Text(&finding.message),
             Text(rule.id),
             Text(rule.section),
         ],
@@ -56,13 +56,13 @@ fn print_finding(findings: &Judgement, number: usize, finding: &Finding, sheet: 
 }
 
 /// Prints the findings between two numbers, which rules find in a field, after its row.
-pub(super) fn print_findings_of(findings: &Judgement, numbers: (usize, usize), out: &mut Out) {
+pub(super) fn print_findings_of(findings: &[Finding], numbers: (usize, usize), out: &mut Out) {
     for number in numbers.0..numbers.1 {
-        if let Some(finding) = findings.list().get(number) {
+        if let Some(finding) = findings.get(number) {
             let word = Text(finding.rule.severity.word());
             print_html(
                 "<tr class=\"finding $\"><td><td colspan=\"3\"><b>$</b> $ <a href=\"#check-$\">$</a>\n",
-                &[word, word, Text(findings.message(finding)), Decimal(number as u64), Text(finding.rule.id)],
+                &[word, word, Text(&finding.message), Decimal(number as u64), Text(finding.rule.id)],
                 out,
             );
         }

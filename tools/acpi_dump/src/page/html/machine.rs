@@ -7,8 +7,6 @@ use super::matrices::print_matrices;
 use super::sheet::{Sheet, classes_of};
 use super::tile::Tile;
 use super::values::print_digest;
-use acpi_programs::rattle::Vec;
-use acpi_programs::rattle::alloc::AllocError;
 use acpi_programs::walk::language::{next_word, number_at, number_of};
 use acpi_programs::walk::out::Out;
 use acpi_programs::walk::share::share_of;
@@ -82,26 +80,25 @@ fn is_off(entry: &[u8], offset: &str) -> bool {
 }
 
 /// Adds the structures of a table that are drawn.
-fn add_shapes(sheet: &Sheet<'_>, table: usize, shapes: &mut Vec<Shape>) -> Result<(), AllocError> {
+fn add_shapes(sheet: &Sheet<'_>, table: usize, shapes: &mut Vec<Shape>) {
     let mut unit = 0usize;
     for (part, structure) in sheet.side.parts.iter().enumerate().skip(1) {
         if structure.parent == 0 {
             unit = part;
         }
         if let Some(shape) = shape_of(sheet, table, part, unit) {
-            shapes.push(shape)?;
+            shapes.push(shape);
         }
     }
     if sheet.is(b"APIC") {
-        add_interrupts(sheet, table, shapes)?;
+        add_interrupts(sheet, table, shapes);
     }
-    Ok(())
 }
 
 /// Adds the ISA interrupts of a MADT to the tiles of the I/O APICs that they come to (sections 5.2.12.3 and 5.2.12.5):
 /// all if there are 8259s, by the flag PCAT_COMPAT, and else those that have an override. Each leads to its override,
 /// or to the I/O APIC if it has none.
-fn add_interrupts(sheet: &Sheet<'_>, table: usize, shapes: &mut Vec<Shape>) -> Result<(), AllocError> {
+fn add_interrupts(sheet: &Sheet<'_>, table: usize, shapes: &mut Vec<Shape>) {
     let (overrides, parts) = overrides_of(sheet);
     let has_pics = number_at(sheet.entry.bytes, 40, 4) & 1 != 0; // Flags
     for irq in 0..16u8 {
@@ -117,10 +114,9 @@ fn add_interrupts(sheet: &Sheet<'_>, table: usize, shapes: &mut Vec<Shape>) -> R
                 class: if part.is_some() { "pin hot" } else { "pin" },
                 text: "",
                 isa: Some((irq as u64, pin)),
-            })?;
+            });
         }
     }
-    Ok(())
 }
 
 /// The Interrupt Source Overrides of a MADT, and the number of the structure that is the last of each ISA interrupt.
@@ -163,20 +159,19 @@ fn pin_of(sheet: &Sheet<'_>, interrupt: u64) -> Option<(usize, u64)> {
 }
 
 /// Prints the tiles of the drawing: none if there is nothing to draw.
-pub(super) fn print_machine(sheets: &[Sheet<'_>], out: &mut Out) -> Result<(), AllocError> {
-    let mut shapes = Vec::new(out.allocator());
+pub(super) fn print_machine(sheets: &[Sheet<'_>], out: &mut Out) {
+    let mut shapes = Vec::new();
     for (table, sheet) in sheets.iter().enumerate() {
         if sheet.is_drawn() {
-            add_shapes(sheet, table, &mut shapes)?;
+            add_shapes(sheet, table, &mut shapes);
         }
     }
-    shapes.sort_by_key(|shape| (shape.tile, shape.is_wide))?;
+    shapes.sort_by_key(|shape| (shape.tile, shape.is_wide));
     let place = shapes.partition_point(|shape| shape.tile.0 < IO_APICS);
     let (processors, others) = shapes.split_at(place);
     print_tiles(sheets, processors, out);
     print_matrices(sheets, out);
     print_tiles(sheets, others, out);
-    Ok(())
 }
 
 /// Prints the tiles of structures in order.
@@ -220,7 +215,7 @@ fn print_tile(sheets: &[Sheet<'_>], shapes: &[Shape], out: &mut Out) {
             out.words("<p>% processors, % in a box</p>", &counts);
         }
         let columns = columns_of(first.tile.0, boxes.len());
-        let mut tile = Tile::new(out.allocator(), columns);
+        let mut tile = Tile::new(columns);
         for some in boxes.chunks(each) {
             add_box(sheet, some, &mut tile);
         }

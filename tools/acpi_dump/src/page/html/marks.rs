@@ -1,10 +1,8 @@
 //! What a page marks in a table: findings, and what differs from the first of two inputs.
 
+use crate::check::rules::Finding;
 use crate::compare::compare::Difference;
 use crate::compare::outline::{BYTES, Item, Side};
-use acpi_programs::input::judgement::Finding;
-use acpi_programs::rattle::Vec;
-use acpi_programs::rattle::alloc::{AllocError, Global};
 
 /// How a field differs from the first of two inputs.
 #[derive(Clone, Copy)]
@@ -40,8 +38,8 @@ fn reach(findings: &[Finding], table: usize, end: u64) -> usize {
 
 /// The marks of the table of this number by findings, which are in the order of the tables and of their offsets: each
 /// is that of the row of its byte. A run of bytes that no field covers has one row.
-pub(super) fn marks_of(alloc: Global, side: Side<'_>, table: usize, findings: &[Finding]) -> Result<Marks, AllocError> {
-    let mut fields: Vec<Mark> = Vec::new(alloc);
+pub(super) fn marks_of(side: Side<'_>, table: usize, findings: &[Finding]) -> Marks {
+    let mut fields: Vec<Mark> = Vec::new();
     let mut next = reach(findings, table, 0);
     let mut row = 0usize;
     for (place, item) in side.items.iter().enumerate() {
@@ -52,9 +50,9 @@ pub(super) fn marks_of(alloc: Global, side: Side<'_>, table: usize, findings: &[
             Some(mark) if item.name == BYTES && is_run(side, row, item) => mark.findings.1 = next,
             _ => row = place,
         }
-        fields.push(Mark { row, findings: (if row == place { first } else { next }, next), change: Change::Same })?;
+        fields.push(Mark { row, findings: (if row == place { first } else { next }, next), change: Change::Same });
     }
-    Ok(Marks { fields, gone: Vec::new(alloc) })
+    Marks { fields, gone: Vec::new() }
 }
 
 /// Whether bytes that no field covers follow others in a structure, those in the row of this number.
@@ -67,10 +65,10 @@ fn is_run(side: Side<'_>, row: usize, item: &Item) -> bool {
 
 impl Marks {
     /// Adds the differences of a table from that of the first input.
-    pub(super) fn add(&mut self, side: Side<'_>, differences: &[Difference<'_>]) -> Result<(), AllocError> {
+    pub(super) fn add(&mut self, side: Side<'_>, differences: &[Difference<'_>]) {
         for found in differences {
             match found.place {
-                None => self.gone.push((found.part, found.was))?,
+                None => self.gone.push((found.part, found.was)),
                 Some(place) if found.name.is_empty() => self.add_structure(side, place),
                 Some(place) => {
                     let change = match found.was {
@@ -81,7 +79,6 @@ impl Marks {
                 }
             }
         }
-        Ok(())
     }
 
     /// Marks the fields of a structure that the first table lacks.

@@ -42,7 +42,7 @@ fn print_matrix(sheet: &Sheet<'_>, offset: u64, matrix: Matrix<'_>, out: &mut Ou
     let counts = [Decimal(all as u64), Decimal(others as u64)];
     print_html(first, &counts, out);
     out.text(" from the left to the top</p>");
-    let mut tile = Tile::new(out.allocator(), columns as u64 + 1);
+    let mut tile = Tile::new(columns as u64 + 1);
     tile.add(None, "", "");
     for column in 0..columns {
         add_name(matrix, matrix.rows.saturating_add(column), &mut tile);

@@ -10,6 +10,7 @@ use super::sheet::{Sheet, Standing};
 use super::values::{print_change, print_digest, print_reference, print_value, structure_of};
 use crate::compare::outline::{BYTES, Item, MALFORMED, Part};
 use acpi_programs::input::entries::header_of;
+use acpi_programs::rattle::alloc::Global;
 use acpi_programs::walk::language::number_at;
 use acpi_programs::walk::out::Out;
 use zacpi::sdt::SdtHeader;
@@ -299,7 +300,7 @@ impl Rows<'_, '_, '_> {
                     self.out,
                 )
             } else {
-                let mut path = Out::new(self.out.allocator());
+                let mut path = Out::new(Global);
                 old.print_path(*part, &mut path);
                 let row = "<tr class=\"del\"><td>$<th scope=\"row\"><del>$</del><td><td>only in the first\n";
                 print_html(row, &[Offset(old.offset(*part)), Bytes(path.since(0))], self.out)

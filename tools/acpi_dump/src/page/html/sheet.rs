@@ -3,10 +3,10 @@
 use super::escape::Piece;
 use super::ids::Id;
 use super::marks::{Change, Mark, Marks};
+use crate::check::rules::Finding;
 use crate::compare::outline::{Item, Side};
 use acpi_programs::code::Known as Names;
 use acpi_programs::input::entries::Entry;
-use acpi_programs::input::judgement::Judgement;
 use zacpi::sdt::Signature;
 
 /// Whether a table is also in the other one of two inputs.
@@ -45,7 +45,7 @@ pub(super) struct Sheet<'p> {
     pub(super) names: &'p Names<'p>,
     pub(super) marks: Marks,
     /// What rules find in all tables.
-    pub(super) findings: &'p Judgement,
+    pub(super) findings: &'p [Finding],
     pub(super) standing: Standing<'p>,
 }
 
@@ -157,10 +157,10 @@ impl<'p> Sheet<'p> {
     fn worst_of(&self, mark: Mark, is_whole: bool, offset: u64, end: u64) -> usize {
         let (first, last) = mark.findings;
         let mut worst = 0usize;
-        for finding in self.findings.list().get(first..last).unwrap_or(&[]) {
+        for finding in self.findings.get(first..last).unwrap_or(&[]) {
             let at = finding.offset as u64;
             if is_whole || offset <= at && at < end {
-                worst = worst.max(finding.rule.severity.rank().saturating_add(1));
+                worst = worst.max(finding.rule.severity as usize + 1);
             }
         }
         worst

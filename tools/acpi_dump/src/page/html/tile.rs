@@ -28,8 +28,8 @@ pub(super) struct Tile {
 
 impl Tile {
     /// A tile without boxes.
-    pub(super) fn new(alloc: Global, columns: u64) -> Tile {
-        Tile { columns, text: Out::new(alloc), title: Out::new(alloc), boxes: Out::new(alloc), x: 0, y: 0 }
+    pub(super) fn new(columns: u64) -> Tile {
+        Tile { columns, text: Out::new(Global), title: Out::new(Global), boxes: Out::new(Global), x: 0, y: 0 }
     }
 
     /// Draws a box that leads to a byte of a table, or only its text, beside the one before if it fits there. The marks

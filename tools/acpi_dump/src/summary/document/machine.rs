@@ -5,7 +5,6 @@ use crate::json::{Token, is_number};
 use crate::summary::machine::{Member, Span, Value};
 use acpi_programs::rattle::Pieces;
 use acpi_programs::walk::language::cut_at;
-use acpi_programs::walk::out::Out;
 
 /// Adds the lines of facts.
 pub fn add_fact_lines(document: &mut Document<'_>, facts: &str) {
@@ -107,12 +106,7 @@ fn add_value(document: &mut Document<'_>, member: &Member, lines: &str) {
 
 /// Adds what the code that a member is means.
 fn add_meaning(document: &mut Document<'_>, name: &str, meaning: &str) {
-    let mut key = Out::new(document.draft.allocator());
-    write!(key, "{name}_meaning");
-    match key.printed() {
-        Some(key) => document.text(key, meaning),
-        None => document.is_refused = true,
-    }
+    document.text(&format!("{name}_meaning"), meaning);
 }
 
 /// Adds numbers that come after spaces, and null for what isn't one.

@@ -1,11 +1,13 @@
 //! The tables in a document.
 
+use crate::text::granted;
 use super::Document;
 use crate::compare::compare::code::Code;
 use crate::compare::compare::{Difference, ShowDifferences};
 use crate::json::Token;
 use acpi_programs::code::{Known, ShowCode, list_table};
 use acpi_programs::input::entries::{Entry, Place, header_of};
+use acpi_programs::rattle::alloc::Global;
 use acpi_programs::walk::fields::number_of;
 use acpi_programs::walk::walk::walk_with_objects;
 
@@ -103,7 +105,7 @@ fn add_fields(document: &mut Document<'_>, entry: &Entry<'_>, part: Part<'_>) {
             add_difference(document, *difference);
         }
     } else if let Some(signature) = entry.signature() {
-        walk_with_objects(document.draft.allocator(), signature, entry.bytes, document);
+        walk_with_objects(Global, signature, entry.bytes, document);
     }
     document.token(Token::EndArray);
 }
@@ -183,8 +185,6 @@ impl ShowCode for Document<'_> {
 /// Adds the operations of a table.
 fn add_code(document: &mut Document<'_>, known: &Known<'_>, entry: &Entry<'_>) {
     document.begin_list("code");
-    let alloc = document.draft.allocator();
-    let listed = list_table(alloc, known, entry.bytes, document);
-    document.is_refused |= listed.is_err();
+    granted(list_table(Global, known, entry.bytes, document));
     document.token(Token::EndArray);
 }

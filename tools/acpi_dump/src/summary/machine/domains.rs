@@ -1,8 +1,9 @@
 //! What the domains of an SRAT have, the latencies and bandwidths of an HMAT, and the distances of a SLIT.
 
+use crate::text::granted;
 use super::facts::{Facts, Value};
 use acpi_programs::input::entries::{Entry, own_signature};
-use acpi_programs::rattle::alloc::AllocError;
+use acpi_programs::rattle::alloc::Global;
 use acpi_programs::walk::matrix::{Matrix, matrix_of};
 use acpi_programs::walk::share::{MEMORY, Share, shares_of};
 use acpi_programs::walk::walk::{Group, Show, walk_table};
@@ -87,31 +88,29 @@ fn add_row(facts: &mut Facts, matrix: Matrix<'_>, row: usize) {
 }
 
 /// Adds what the domains of the SRATs and HMATs have that are read.
-pub fn add_domains(entries: &[Entry<'_>], facts: &mut Facts) -> Result<(), AllocError> {
+pub fn add_domains(entries: &[Entry<'_>], facts: &mut Facts) {
     for entry in entries {
         let table = entry.table();
         if !entry.status.is_read() {
             continue;
         }
         if table.starts_with(b"SRAT") {
-            add_srat(table, facts)?;
+            add_srat(table, facts);
         } else if table.starts_with(b"HMAT") {
             walk_table(own_signature(table), table, &mut Matrices { table, facts });
         }
     }
-    Ok(())
 }
 
 /// Adds what the domains of an SRAT have.
-fn add_srat(srat: &[u8], facts: &mut Facts) -> Result<(), AllocError> {
-    let mut shares = shares_of(facts.allocator(), srat)?;
-    shares.sort_by_key(|share| (share.domain, share.number))?;
+fn add_srat(srat: &[u8], facts: &mut Facts) {
+    let mut shares = granted(shares_of(Global, srat)).to_vec();
+    shares.sort_by_key(|share| (share.domain, share.number));
     for own in shares.chunk_by(|one, next| one.domain == next.domain) {
         if let [first, ..] = own {
             add_domain(facts, first.domain as u64, own);
         }
     }
-    Ok(())
 }
 
 /// Adds a line of distances for each locality of a SLIT, up to the first that the table doesn't have.

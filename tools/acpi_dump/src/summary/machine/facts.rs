@@ -1,7 +1,6 @@
 //! What a summary says: lines, and the objects of a document whose members are the numbers and the texts of the lines.
 
 use acpi_programs::rattle::Pieces;
-use acpi_programs::rattle::Vec;
 use acpi_programs::rattle::alloc::Global;
 use acpi_programs::walk::fields::size_of;
 use acpi_programs::walk::language::cut_at;
@@ -56,8 +55,8 @@ pub struct Facts {
 
 impl Facts {
     /// No facts.
-    pub fn new(alloc: Global) -> Facts {
-        Facts { lines: Out::new(alloc), members: Vec::new(alloc), subject: "", object: 0 }
+    pub fn new() -> Facts {
+        Facts { lines: Out::new(Global), members: Vec::new(), subject: "", object: 0 }
     }
 
     /// The lines, and the members.
@@ -66,18 +65,13 @@ impl Facts {
         (lines, members)
     }
 
-    /// The allocator.
-    pub fn allocator(&self) -> Global {
-        self.lines.allocator()
-    }
-
     /// Begins a line, and an object of a subject.
     pub fn begin(&mut self, subject: &'static str, words: &'static str, numbers: &[u64]) {
         if self.lines.length() > 0 {
             self.lines.text("\n");
         }
         self.subject = subject;
-        self.object = self.object.saturating_add(1);
+        self.object += 1;
         self.words(words, numbers)
     }
 
@@ -114,9 +108,7 @@ impl Facts {
     /// Adds a member that no line has.
     pub fn member(&mut self, name: &'static str, value: Value) {
         let member = Member { subject: self.subject, object: self.object, name, value };
-        if self.members.push(member).is_err() {
-            self.lines.refuse();
-        }
+        self.members.push(member);
     }
 
     /// Adds words that are no member.

@@ -1,8 +1,8 @@
 //! Processors that have local APICs: a line for those whose numbers follow each other, and which are else alike.
 
+use crate::text::granted;
 use super::facts::{Facts, Value};
-use acpi_programs::rattle::Vec;
-use acpi_programs::rattle::alloc::AllocError;
+use acpi_programs::rattle::alloc::Global;
 use acpi_programs::walk::share::{Share, shares_of};
 use zacpi::platform::{Processor, ProcessorState};
 
@@ -60,22 +60,16 @@ fn add_alike(facts: &mut Facts, first: &Placed<'_>, last: &Placed<'_>) {
 }
 
 /// Adds processors, the boot processor first, with their domains by an SRAT's bytes.
-pub(super) fn add_rows(
-    facts: &mut Facts,
-    boot: &Processor,
-    others: &[Processor],
-    srat: &[u8],
-) -> Result<(), AllocError> {
-    let mut shares = shares_of(facts.allocator(), srat)?;
-    shares.sort_by_key(|share| (share.is_apic, share.number))?;
-    let mut placed = Vec::new(facts.allocator());
+pub(super) fn add_rows(facts: &mut Facts, boot: &Processor, others: &[Processor], srat: &[u8]) {
+    let mut shares = granted(shares_of(Global, srat)).to_vec();
+    shares.sort_by_key(|share| (share.is_apic, share.number));
+    let mut placed = Vec::new();
     for processor in [boot].into_iter().chain(others) {
-        placed.push(Placed { processor, domain: domain_in(&shares, processor.local_apic_id) })?;
+        placed.push(Placed { processor, domain: domain_in(&shares, processor.local_apic_id) });
     }
     for alike in placed.chunk_by(|one, next| one.is_before(next)) {
         if let ([first, ..], [.., last]) = (alike, alike) {
             add_alike(facts, first, last);
         }
     }
-    Ok(())
 }

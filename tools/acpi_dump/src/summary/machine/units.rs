@@ -1,5 +1,6 @@
 //! Units and devices that tables tell of, a line each, by the fields of their structures.
 
+use crate::text::printed;
 use super::facts::{Facts, Value};
 use acpi_programs::input::entries::{Entry, own_signature};
 use acpi_programs::rattle::Pieces;
@@ -128,12 +129,8 @@ impl Show for Units<'_> {
         if self.depth > 1 || name != shown.label.name {
             return;
         }
-        let mut value = Out::new(self.facts.allocator());
-        print_fact(shown, is_size, &mut value);
-        match value.printed() {
-            None => self.facts.lines.refuse(),
-            Some(text) => self.add(before, member, shown, text.trim()),
-        }
+        let value = printed(|out| print_fact(shown, is_size, out));
+        self.add(before, member, shown, value.trim());
         if !left.is_empty() {
             self.left = left;
         }
