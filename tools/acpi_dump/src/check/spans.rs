@@ -1,6 +1,5 @@
 //! Ranges of numbers, such as addresses, that should not overlap.
 
-
 /// A range of numbers, from its first to its last.
 #[derive(Clone, Copy)]
 pub(crate) struct Span {

@@ -29,10 +29,8 @@ use crate::compare::outline::{Items, Side, items_of};
 use acpi_programs::code::Known as Names;
 use acpi_programs::input::entries::Entry;
 use acpi_programs::rattle::alloc::Global;
-use acpi_programs::walk::out::Out;
 use escape::Piece::Printed;
-pub use escape::print_escaped;
-use escape::print_html;
+pub use escape::{Html, Piece};
 use findings::print_findings;
 use frame::{print_end, print_front};
 use ids::{Id, signature_of};
@@ -146,7 +144,7 @@ fn compare_with<'p>(source: Source<'p>, old: Side<'p>, sheet: &mut Sheet<'p>) {
 }
 
 /// Prints the page.
-pub fn print_page(source: Source<'_>, out: &mut Out) {
+pub fn print_page(source: Source<'_>, out: &mut Html) {
     let outlines = outlines_of(source.input.entries);
     let old_outlines = outlines_of(source.old());
     let paths = names_in(source.input.entries);
@@ -164,19 +162,19 @@ fn print_outlined<'p>(
     old_outlines: &'p [Items<'p>],
     names: &'p Names<'p>,
     old_names: &'p Names<'p>,
-    out: &mut Out,
+    out: &mut Html,
 ) {
     let new = Outlined { entries: source.input.entries, outlines, names };
     let old = Outlined { entries: source.old(), outlines: old_outlines, names: old_names };
     let mut sheets = Vec::new();
     add_sheets(source, new, old, false, &mut sheets);
     add_sheets(source, old, new, true, &mut sheets);
-    let mut machine = Out::new(Global);
+    let mut machine = Html::default();
     print_machine(&sheets, &mut machine);
-    print_front(source, &sheets, machine.length() > 0, out);
-    if machine.length() > 0 {
+    print_front(source, &sheets, !machine.is_empty(), out);
+    if !machine.is_empty() {
         let section = "<section id=\"machine\"><h2>The machine</h2><div class=\"board\">\n$</div></section>\n";
-        print_html(section, &[Printed(&machine)], out);
+        out.fill(section, &[Printed(&machine)]);
     }
     print_findings(source.findings, &sheets, out);
     print_list(&sheets, out);

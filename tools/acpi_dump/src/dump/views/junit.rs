@@ -4,48 +4,39 @@ use crate::text::printed;
 use super::Output;
 use super::judged::print_finding;
 use crate::check::rules::{Finding, Rule, Severity, all};
-use crate::page::html::print_escaped;
+use crate::page::html::Html;
+use crate::page::html::Piece::{Decimal, Printed, Text};
 use acpi_programs::input::entries::Entry;
-use acpi_programs::rattle::alloc::Global;
 use acpi_programs::walk::out::Out;
 
-/// Prints a text in an attribute or between tags.
-fn print_text(text: &str, out: &mut Out) {
-    print_escaped(text.as_bytes(), out);
-}
-
 /// Prints a line for each finding of a rule, as text between tags.
-fn print_lines(rule: &Rule, findings: &[Finding], entries: &[Entry<'_>], out: &mut Out) {
+fn print_lines(rule: &Rule, findings: &[Finding], entries: &[Entry<'_>], out: &mut Html) {
     for finding in findings {
         if finding.rule.id == rule.id
             && let Some(entry) = entries.get(finding.table)
         {
-            print_text(&printed(|line| print_finding(finding, entry, line)), out);
-            out.text("\n");
+            out.escaped(printed(|line| print_finding(finding, entry, line)).as_bytes());
+            out.markup("\n");
         }
     }
 }
 
 /// Prints the test that a rule is: one that fails if the rule finds something that is bad. What isn't bad is output of
 /// the test.
-fn print_test(rule: &Rule, is_bad: bool, lines: &Out, out: &mut Out) {
-    out.text("    <testcase classname=\"acpi_dump\" name=\"");
-    print_text(rule.id, out);
-    if lines.length() == 0 {
-        return out.text("\"/>\n");
+fn print_test(rule: &Rule, is_bad: bool, lines: &Html, out: &mut Html) {
+    out.fill("    <testcase classname=\"acpi_dump\" name=\"$\"", &[Text(rule.id)]);
+    if lines.is_empty() {
+        return out.markup("/>\n");
     }
-    let (begin, end) = if is_bad { ("<failure", "</failure>") } else { ("<system-out", "</system-out>") };
-    out.fill("\">\n      $", &[begin]);
     if is_bad {
-        out.fill(" type=\"$\" message=\"", &[rule.severity.word()]);
-        print_text(rule.what, out);
-        out.text(" (");
-        print_text(rule.section, out);
-        out.text(")\"");
+        out.fill(
+            ">\n      <failure type=\"$\" message=\"$ ($)\">$</failure>",
+            &[Text(rule.severity.word()), Text(rule.what), Text(rule.section), Printed(lines)],
+        );
+    } else {
+        out.fill(">\n      <system-out>$</system-out>", &[Printed(lines)]);
     }
-    out.text(">");
-    out.append(lines);
-    out.fill("$\n    </testcase>\n", &[end]);
+    out.markup("\n    </testcase>\n");
 }
 
 /// Prints the report: a test for each rule of at least the least severity. What makes the status 4 makes a test fail.
@@ -53,7 +44,7 @@ pub(super) fn print_junit(output: Output<'_>, findings: &[Finding], entries: &[E
     let shown = output.request.least.unwrap_or(Severity::Note);
     let bad = output.request.least.unwrap_or(Severity::Error);
     let (mut tests, mut failures) = (0u64, 0u64);
-    let (mut printed, mut lines) = (Out::new(Global), Out::new(Global));
+    let (mut tried, mut lines) = (Html::default(), Html::default());
     for rule in all() {
         if rule.severity < shown {
             continue;
@@ -61,12 +52,14 @@ pub(super) fn print_junit(output: Output<'_>, findings: &[Finding], entries: &[E
         lines.clear();
         print_lines(rule, findings, entries, &mut lines);
         tests += 1;
-        failures += (lines.length() > 0 && rule.severity >= bad) as u64;
-        print_test(rule, rule.severity >= bad, &lines, &mut printed);
+        failures += (!lines.is_empty() && rule.severity >= bad) as u64;
+        print_test(rule, rule.severity >= bad, &lines, &mut tried);
     }
-    out.text("<?xml version=\"1.0\" encoding=\"UTF-8\"?>\n<testsuites>\n  <testsuite name=\"acpi_dump --check ");
-    print_text(output.name(), out);
-    out.words("\" tests=\"%\" failures=\"%\" errors=\"0\">\n", &[tests, failures]);
-    out.append(&printed);
-    out.text("  </testsuite>\n</testsuites>\n");
+    let mut report = Html::default();
+    report.fill(
+        "<?xml version=\"1.0\" encoding=\"UTF-8\"?>\n<testsuites>\n  <testsuite name=\"acpi_dump --check $\" tests=\"$\" \
+         failures=\"$\" errors=\"0\">\n$  </testsuite>\n</testsuites>\n",
+        &[Text(output.name()), Decimal(tests), Decimal(failures), Printed(&tried)],
+    );
+    out.text(report.as_str());
 }

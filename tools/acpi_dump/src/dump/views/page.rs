@@ -1,16 +1,15 @@
 //! A page of an input, or of what differs between two.
 
-use crate::text::{granted, text_of};
+use crate::text::granted;
 use super::judged::{findings_in, status_of};
 use super::read::{Tables, tables_in};
 use super::{Output, strict_status};
-use crate::page::html::{Given, Source, print_page};
+use crate::page::html::{Given, Html, Source, print_page};
 use acpi_programs::cli::storage::Storage;
 use acpi_programs::input::errors::{Log, Stop};
 use acpi_programs::input::extract::save_file;
 use acpi_programs::input::gather::Input;
 use acpi_programs::input::sources::Sources;
-use acpi_programs::rattle::alloc::Global;
 use acpi_programs::walk::out::Out;
 
 /// Prints the page of tables, beside the tables of a first input if there is one. Returns the status.
@@ -19,7 +18,7 @@ fn print_judged_page(
     first: Option<Given<'_>>,
     names: &[&str],
     tables: &Tables<'_>,
-    page: &mut Out,
+    page: &mut Html,
     log: &mut Log,
 ) -> Result<u8, Stop> {
     let (findings, _) = &findings_in(output, tables, log)?;
@@ -36,7 +35,7 @@ fn print_any_page(
     output: Output<'_>,
     input: &Input,
     second: Option<&Input>,
-    page: &mut Out,
+    page: &mut Html,
     log: &mut Log,
 ) -> Result<u8, Stop> {
     let tables = &tables_in(output, input, log)?;
@@ -81,8 +80,8 @@ pub(crate) fn save_page<S: Sources, T: Storage>(
     out: &mut Out,
     log: &mut Log,
 ) -> Result<u8, Stop> {
-    let mut page = Out::new(Global);
+    let mut page = Html::default();
     let status = print_any_page(output, input, second, &mut page, log)?;
-    save_text(output, file, text_of(&page), sources, storage, out, log);
+    save_text(output, file, page.as_str(), sources, storage, out, log);
     Ok(status)
 }

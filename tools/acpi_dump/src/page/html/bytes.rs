@@ -1,11 +1,9 @@
 //! The bytes of a table, 16 a line, in runs of one field each: so that a mark needs no arithmetic.
 
-use super::escape::Piece::{Digits, Markup};
-use super::escape::{print_escaped, print_html};
+use super::escape::Html;
+use super::escape::Piece::{Digits, Markup, Offset};
 use super::marks::Change;
 use super::sheet::Sheet;
-use acpi_programs::rattle::alloc::Global;
-use acpi_programs::walk::out::Out;
 
 /// The run that a byte may be of: the offset of the row that shows it, and whether it differs from the first input.
 type Run = Option<(u64, bool)>;
@@ -28,15 +26,15 @@ fn run_at(sheet: &Sheet<'_>, offset: u64, field: &mut usize) -> Run {
 }
 
 /// Prints what ends a run, and then what begins one, where they aren't the same, and the blanks between them.
-fn print_border(before: Run, run: Run, gap: &'static str, out: &mut Out) {
+fn print_border(before: Run, run: Run, gap: &'static str, out: &mut Html) {
     let end = if before.is_some() { "</i>" } else { "" };
     match run {
-        _ if before == run => out.text(gap),
-        None => out.fill("$$", &[end, gap]),
+        _ if before == run => out.markup(gap),
+        None => out.fill("$$", &[Markup(end), Markup(gap)]),
         Some((row, differs)) => {
             let class = Markup(if differs { " ch" } else { "" });
             let pieces = [Markup(end), Markup(gap), Digits(row), class];
-            print_html("$$<i class=\"f$$\">", &pieces, out)
+            out.fill("$$<i class=\"f$$\">", &pieces)
         }
     }
 }
@@ -51,11 +49,11 @@ fn gap_before(place: usize) -> &'static str {
 }
 
 /// Prints bytes in hexadecimal digits and as characters, in runs if they are of a table on the page.
-pub(super) fn print_bytes(bytes: &[u8], sheet: Option<&Sheet<'_>>, out: &mut Out) {
-    let mut letters = Out::new(Global);
+pub(super) fn print_bytes(bytes: &[u8], sheet: Option<&Sheet<'_>>, out: &mut Html) {
+    let mut letters = Html::default();
     let (mut offset, mut field) = (0u64, 0usize);
     for line in bytes.chunks(16) {
-        write!(out, "<b>{offset:04x}</b>  ");
+        out.fill("<b>$</b>  ", &[Offset(offset)]);
         let mut before: Run = None;
         for (place, byte) in line.iter().enumerate() {
             let run = match sheet {
@@ -64,19 +62,19 @@ pub(super) fn print_bytes(bytes: &[u8], sheet: Option<&Sheet<'_>>, out: &mut Out
             };
             print_border(before, run, gap_before(place), out);
             print_border(before, run, "", &mut letters);
-            write!(out, "{byte:02x}");
-            print_escaped(&[*byte], &mut letters);
+            out.digits(u64::from(*byte), 2);
+            letters.escaped(&[*byte]);
             before = run;
             offset = offset.saturating_add(1);
         }
         print_border(before, None, "", out);
         print_border(before, None, "", &mut letters);
         for place in line.len()..16 {
-            out.fill("$  ", &[gap_before(place)]);
+            out.fill("$  ", &[Markup(gap_before(place))]);
         }
-        out.text("  ");
+        out.markup("  ");
         out.append(&letters);
-        out.text("\n");
+        out.markup("\n");
         letters.clear();
     }
 }

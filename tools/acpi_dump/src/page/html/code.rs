@@ -1,7 +1,7 @@
 //! The operations of a method, in a fold.
 
 use crate::text::{granted, printed};
-use super::escape::print_escaped;
+use super::escape::Html;
 use super::sheet::Sheet;
 use crate::compare::compare::code::segments_of;
 use crate::compare::outline::Item;
@@ -24,7 +24,7 @@ fn print_operations(sheet: &Sheet<'_>, item: &Item, places: (usize, usize), out:
 }
 
 /// Prints the operations of the object that an item is, if that is a method.
-pub(super) fn print_code(sheet: &Sheet<'_>, item: &Item, out: &mut Out) {
+pub(super) fn print_code(sheet: &Sheet<'_>, item: &Item, out: &mut Html) {
     let Some(part) = sheet.side.parts.get(item.part) else {
         return;
     };
@@ -35,12 +35,12 @@ pub(super) fn print_code(sheet: &Sheet<'_>, item: &Item, out: &mut Out) {
         return;
     }
     let lines = printed(|text| print_operations(sheet, item, (start as usize, end as usize), text));
-    out.text(BEGIN);
+    out.markup(BEGIN);
     for line in lines.pieces('\n') {
         if !line.is_empty() {
-            print_escaped(line.as_bytes(), out);
-            out.text("\n");
+            out.escaped(line.as_bytes());
+            out.markup("\n");
         }
     }
-    out.text(END)
+    out.markup(END)
 }

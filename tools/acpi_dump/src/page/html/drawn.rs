@@ -1,13 +1,12 @@
 //! Which structures the drawing has, and the texts of their boxes.
 
+use super::escape::Html;
 use super::escape::Piece::{Decimal, Text, Words};
-use super::escape::{print_escaped, print_html};
 use super::sheet::Sheet;
 use crate::compare::outline::{Item, Part};
 use acpi_programs::rattle::Pieces;
 use acpi_programs::walk::fields::{number_of, size_of};
 use acpi_programs::walk::language::cut_at;
-use acpi_programs::walk::out::Out;
 
 /// The structures that are drawn. The first line counts that begins with the letters of the table and then with the
 /// name of the structure, or the front of that. After bars there follow the number of the tile's kind, the class of the
@@ -70,27 +69,27 @@ fn is_named(sheet: &Sheet<'_>, structure: &Part, head: &str) -> bool {
 }
 
 /// Prints a text, in it what a structure and its fields have in the place of names in braces.
-pub(super) fn print_line(sheet: &Sheet<'_>, structure: usize, line: &'static str, out: &mut Out) {
+pub(super) fn print_line(sheet: &Sheet<'_>, structure: usize, line: &'static str, out: &mut Html) {
     for (place, piece) in line.pieces('{').enumerate() {
         let (name, text) = cut_at(piece, '}');
         match sheet.side.parts.get(structure) {
-            _ if place == 0 => out.text(name),
-            Some(part) if name.is_empty() => print_escaped(part.name.as_bytes(), out),
+            _ if place == 0 => out.markup(name),
+            Some(part) if name.is_empty() => out.escaped(part.name.as_bytes()),
             _ => print_fields(sheet, structure, name, out),
         }
-        out.text(text);
+        out.markup(text);
     }
 }
 
 /// Prints the fields of a structure that have a name, after its type and its length, with `/` between them: each as the
 /// name asks, which may begin with `%` or `#`.
-fn print_fields(sheet: &Sheet<'_>, structure: usize, name: &'static str, out: &mut Out) {
+fn print_fields(sheet: &Sheet<'_>, structure: usize, name: &'static str, out: &mut Html) {
     let wanted = name.trim_start_matches(['%', '#']);
     let mut count = 0usize;
     for item in sheet.side.items_in(structure) {
         let is_header = item.within < 5 && wanted == "Length";
         if item.part == structure && item.name == wanted && !is_header {
-            out.text(if count > 0 { "/" } else { "" });
+            out.markup(if count > 0 { "/" } else { "" });
             print_field(sheet, item, name, out);
             count = count.saturating_add(1);
         }
@@ -98,16 +97,16 @@ fn print_fields(sheet: &Sheet<'_>, structure: usize, name: &'static str, out: &m
 }
 
 /// Prints a field as its name in a line has it.
-fn print_field(sheet: &Sheet<'_>, item: &Item, name: &'static str, out: &mut Out) {
+fn print_field(sheet: &Sheet<'_>, item: &Item, name: &'static str, out: &mut Html) {
     let number = number_of(sheet.side.bytes(item.offset, item.length));
     let meaning = sheet.side.meaning(item);
     if name.starts_with('%') {
         let (size, unit) = size_of(number);
-        print_html("$ $", &[Decimal(size), Text(unit)], out)
+        out.fill("$ $", &[Decimal(size), Text(unit)])
     } else if name.starts_with('#') {
-        write!(out, "{number:02x}")
+        out.digits(number, 2)
     } else if !meaning.is_empty() {
-        print_html("$", &[Words(meaning, 26)], out)
+        out.fill("$", &[Words(meaning, 26)])
     } else if name != "Flags" {
         out.words("#", &[number])
     }

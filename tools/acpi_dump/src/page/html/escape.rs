@@ -3,8 +3,8 @@
 use super::ids::Id;
 use crate::compare::outline::Item;
 use acpi_programs::input::status::Status;
-use acpi_programs::rattle::alloc::Global;
-use acpi_programs::walk::out::Out;
+use std::borrow::Cow;
+use std::fmt::Write;
 use zacpi::sdt::Signature;
 
 /// How many digits of a value are shown.
@@ -12,7 +12,7 @@ const DIGITS: usize = 26;
 
 /// What is put in place of a `$` in the skeleton of a part of a page.
 #[derive(Clone, Copy)]
-pub(super) enum Piece<'a> {
+pub enum Piece<'a> {
     /// Characters of a text or of an attribute in double quotes.
     Text(&'a str),
     Bytes(&'a [u8]),
@@ -34,55 +34,123 @@ pub(super) enum Piece<'a> {
     Digits(u64),
     Offset(u64),
     /// HTML of this program.
-    Markup(&'a str),
-    Printed(&'a Out),
+    Markup(&'static str),
+    Printed(&'a Html),
 }
 
-/// Prints the skeleton of a part of a page, each `$` in it as the next of the pieces, or as it is if none is left.
-pub(super) fn print_html(skeleton: &'static str, pieces: &[Piece<'_>], out: &mut Out) {
-    let mut used = 0;
-    for letter in skeleton.as_bytes() {
-        match pieces.get(used) {
-            Some(piece) if *letter == b'$' => {
-                print_piece(*piece, out);
-                used += 1;
-            }
-            _ => out.bytes(&[*letter]),
-        }
-    }
-}
+/// HTML, or other XML: what is put into it is markup that is in this program's source, or text that is escaped.
+#[derive(Default)]
+pub struct Html(String);
 
-/// Prints what is put in place of a `$`: all of it escaped, unless it is HTML already.
-fn print_piece(piece: Piece<'_>, out: &mut Out) {
-    let mut text = Out::new(Global);
-    match piece {
-        Piece::Markup(html) => return out.text(html),
-        Piece::Printed(html) => return out.append(html),
-        Piece::Text(letters) => text.text(letters),
-        Piece::Bytes(bytes) => text.bytes(bytes),
-        Piece::Value(value) => print_first_digits(value, &mut text),
-        Piece::Words(words, most) => print_words(words, most, &mut text),
-        Piece::Name(item) => {
-            text.text(item.name);
-            if let Some(number) = item.number {
-                text.words(" %", &[number])
-            }
-        }
-        Piece::Names(names) => print_names(names, &mut text),
-        Piece::Letters(signature) => text.bytes(&signature.to_bytes()),
-        Piece::Status(status) => write!(text, "{status}"),
-        Piece::Id(id, offset) => {
-            id.print(&mut text);
-            if let Some(offset) = offset {
-                text.words("-#", &[offset])
-            }
-        }
-        Piece::Decimal(number) => write!(text, "{number}"),
-        Piece::Hex(number) => write!(text, "0x{number:x}"),
-        Piece::Digits(number) => write!(text, "{number:x}"),
-        Piece::Offset(offset) => write!(text, "{offset:04x}"),
+impl Html {
+    pub fn as_str(&self) -> &str {
+        &self.0
     }
-    print_escaped(text.since(0), out)
+
+    pub fn is_empty(&self) -> bool {
+        self.0.is_empty()
+    }
+
+    pub fn clear(&mut self) {
+        self.0.clear();
+    }
+
+    /// Adds markup.
+    pub fn markup(&mut self, markup: &'static str) {
+        self.0.push_str(markup);
+    }
+
+    /// Adds bytes as characters of a text or of an attribute in quotes: `&`, `<`, `>` and the quotes as entities, and
+    /// those that aren't printable ASCII as `.`.
+    pub fn escaped(&mut self, bytes: &[u8]) {
+        for byte in bytes {
+            match byte {
+                b'&' => self.0.push_str("&amp;"),
+                b'<' => self.0.push_str("&lt;"),
+                b'>' => self.0.push_str("&gt;"),
+                b'"' => self.0.push_str("&quot;"),
+                b'\'' => self.0.push_str("&#39;"),
+                0x20..=0x7e => self.0.push(char::from(*byte)),
+                _ => self.0.push('.'),
+            }
+        }
+    }
+
+    /// Adds the digits of a hexadecimal number, at least so many.
+    pub fn digits(&mut self, number: u64, width: usize) {
+        self.number(format_args!("{number:0width$x}"));
+    }
+
+    fn number(&mut self, digits: std::fmt::Arguments<'_>) {
+        self.0.write_fmt(digits).expect("a String is written");
+    }
+
+    /// Adds other markup.
+    pub fn append(&mut self, other: &Html) {
+        self.0.push_str(&other.0);
+    }
+
+    /// Adds markup, with the next number in place of each `#` (in hexadecimal digits) and `%` (in decimal ones).
+    pub fn words(&mut self, markup: &'static str, numbers: &[u64]) {
+        let mut numbers = numbers.iter();
+        for letter in markup.chars() {
+            match letter {
+                '#' => numbers.next().into_iter().for_each(|number| self.number(format_args!("0x{number:x}"))),
+                '%' => numbers.next().into_iter().for_each(|number| self.number(format_args!("{number}"))),
+                _ => self.0.push(letter),
+            }
+        }
+    }
+
+    /// Adds the skeleton of a part of a page, each `$` in it as the next of the pieces, or as it is if none is left.
+    pub fn fill(&mut self, skeleton: &'static str, pieces: &[Piece<'_>]) {
+        let mut pieces = pieces.iter();
+        for (place, markup) in skeleton.split('$').enumerate() {
+            if place > 0 {
+                match pieces.next() {
+                    Some(piece) => self.piece(*piece),
+                    None => self.0.push('$'),
+                }
+            }
+            self.0.push_str(markup);
+        }
+    }
+
+    /// Adds what is put in place of a `$`: all of it escaped, unless it is HTML already.
+    fn piece(&mut self, piece: Piece<'_>) {
+        match piece {
+            Piece::Markup(html) => self.markup(html),
+            Piece::Printed(html) => self.append(html),
+            Piece::Text(letters) => self.escaped(letters.as_bytes()),
+            Piece::Bytes(bytes) => self.escaped(bytes),
+            Piece::Value(value) => self.escaped(first_digits(value).as_bytes()),
+            Piece::Words(words, most) => {
+                let front = first_words(words, most);
+                self.escaped(front.as_bytes());
+                self.markup(if front.len() < words.len() { " .." } else { "" });
+            }
+            Piece::Name(item) => {
+                self.escaped(item.name.as_bytes());
+                if let Some(number) = item.number {
+                    self.words(" %", &[number]);
+                }
+            }
+            Piece::Names([]) => self.markup("this machine"),
+            Piece::Names(names) => self.escaped(names.join(" ").as_bytes()),
+            Piece::Letters(signature) => self.escaped(&signature.to_bytes()),
+            Piece::Status(status) => self.escaped(status.to_string().as_bytes()),
+            Piece::Id(id, offset) => {
+                self.escaped(id.to_string().as_bytes());
+                if let Some(offset) = offset {
+                    self.words("-#", &[offset]);
+                }
+            }
+            Piece::Decimal(number) => self.words("%", &[number]),
+            Piece::Hex(number) => self.words("#", &[number]),
+            Piece::Digits(number) => self.digits(number, 0),
+            Piece::Offset(offset) => self.digits(offset, 4),
+        }
+    }
 }
 
 /// A text if something holds, or no letters.
@@ -90,23 +158,12 @@ pub(super) fn word_if(holds: bool, text: &'static str) -> Piece<'static> {
     Piece::Text(if holds { text } else { "" })
 }
 
-/// Prints a path, or the first digits of a value.
-fn print_first_digits(value: &str, out: &mut Out) {
-    let digits = value.as_bytes();
-    match digits.get(..DIGITS) {
-        Some(front) if digits.len() > DIGITS && !value.starts_with('\\') => {
-            out.bytes(front);
-            out.text("..");
-        }
-        _ => out.text(value),
+/// A path, or the first digits of a value.
+fn first_digits(value: &str) -> Cow<'_, str> {
+    match value.get(..DIGITS) {
+        Some(front) if value.len() > DIGITS && !value.starts_with('\\') => Cow::Owned(format!("{front}..")),
+        _ => Cow::Borrowed(value),
     }
-}
-
-/// Prints the first words of a text, of at most so many letters together.
-fn print_words(text: &str, most: usize, out: &mut Out) {
-    let front = first_words(text, most);
-    out.text(front);
-    out.text(if front.len() < text.len() { " .." } else { "" })
 }
 
 /// The first words of a text, of at most so many letters together.
@@ -118,39 +175,5 @@ fn first_words(text: &str, most: usize) -> &str {
     match front.rsplit_once(' ') {
         Some((words, _)) => words.trim_end_matches([',', ' ']),
         None => front,
-    }
-}
-
-/// Prints a byte as `print_escaped` does.
-fn print_byte(byte: u8, out: &mut Out) {
-    match byte {
-        b'&' => out.text("&amp;"),
-        b'<' => out.text("&lt;"),
-        b'>' => out.text("&gt;"),
-        b'"' => out.text("&quot;"),
-        b'\'' => out.text("&#39;"),
-        0x20..=0x7e => out.bytes(&[byte]),
-        _ => out.text("."),
-    }
-}
-
-/// Prints bytes as characters of a text or of an attribute in quotes, in HTML or XML: `&`, `<`, `>` and the quotes as
-/// entities, and those that aren't printable ASCII as `.`. If memory runs out, only the first ones are printed.
-pub fn print_escaped(bytes: &[u8], out: &mut Out) {
-    for byte in bytes {
-        print_byte(*byte, out);
-    }
-}
-
-/// Prints the names of what an input was read from.
-fn print_names(names: &[&str], out: &mut Out) {
-    if names.is_empty() {
-        out.text("this machine");
-    }
-    for (number, name) in names.iter().enumerate() {
-        if number > 0 {
-            out.text(" ");
-        }
-        out.text(name);
     }
 }

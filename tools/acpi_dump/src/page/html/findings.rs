@@ -1,13 +1,12 @@
 //! What rules find, as a list with links to the fields.
 
+use super::escape::Html;
 use super::escape::Piece::{Decimal, Hex, Letters, Text};
-use super::escape::print_html;
 use super::sheet::Sheet;
 use crate::check::rules::{Finding, Severity, counts_of};
-use acpi_programs::walk::out::Out;
 
 /// Prints how much rules find in tables, and what: errors first, then warnings, then notes.
-pub(super) fn print_findings(findings: &[Finding], sheets: &[Sheet<'_>], out: &mut Out) {
+pub(super) fn print_findings(findings: &[Finding], sheets: &[Sheet<'_>], out: &mut Html) {
     let [notes, warnings, errors] = counts_of(findings, Severity::Note);
     let counts = [errors as u64, warnings as u64, notes as u64];
     out.words(
@@ -16,7 +15,7 @@ pub(super) fn print_findings(findings: &[Finding], sheets: &[Sheet<'_>], out: &m
         &counts,
     );
     if findings.is_empty() {
-        out.text("<li>Nothing was found.\n");
+        out.markup("<li>Nothing was found.\n");
     }
     for severity in [Severity::Error, Severity::Warning, Severity::Note] {
         for (number, finding) in findings.iter().enumerate() {
@@ -27,15 +26,15 @@ pub(super) fn print_findings(findings: &[Finding], sheets: &[Sheet<'_>], out: &m
             }
         }
     }
-    out.text("</ol></section>\n");
+    out.markup("</ol></section>\n");
 }
 
 /// Prints what a rule finds in a table, with a link to the field.
-fn print_finding(number: usize, finding: &Finding, sheet: &Sheet<'_>, out: &mut Out) {
+fn print_finding(number: usize, finding: &Finding, sheet: &Sheet<'_>, out: &mut Html) {
     let (rule, offset) = (finding.rule, finding.offset as u64);
     let word = Text(rule.severity.word());
     let gap = if finding.field.is_empty() { "" } else { " " };
-    print_html(
+    out.fill(
         "<li id=\"check-$\" class=\"$\"><span class=\"sev\">$</span> <a href=\"#$\">$ +$$$</a> \
          <span class=\"msg\">$</span> <small>$ · $</small>\n",
         &[
@@ -51,19 +50,17 @@ fn print_finding(number: usize, finding: &Finding, sheet: &Sheet<'_>, out: &mut 
             Text(rule.id),
             Text(rule.section),
         ],
-        out,
     )
 }
 
 /// Prints the findings between two numbers, which rules find in a field, after its row.
-pub(super) fn print_findings_of(findings: &[Finding], numbers: (usize, usize), out: &mut Out) {
+pub(super) fn print_findings_of(findings: &[Finding], numbers: (usize, usize), out: &mut Html) {
     for number in numbers.0..numbers.1 {
         if let Some(finding) = findings.get(number) {
             let word = Text(finding.rule.severity.word());
-            print_html(
+            out.fill(
                 "<tr class=\"finding $\"><td><td colspan=\"3\"><b>$</b> $ <a href=\"#check-$\">$</a>\n",
                 &[word, word, Text(&finding.message), Decimal(number as u64), Text(finding.rule.id)],
-                out,
             );
         }
     }

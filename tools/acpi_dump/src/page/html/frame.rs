@@ -1,12 +1,11 @@
 //! What is around the parts of a page: its head, its links at the top, and its end.
 
 use super::Source;
+use super::escape::Html;
 use super::escape::Piece::{Id, Letters, Markup, Names};
-use super::escape::print_html;
 use super::script::{SCRIPT, SCRIPT_HASH};
 use super::sheet::{Sheet, Standing};
 use super::style::{STYLE, STYLE_HASH};
-use acpi_programs::walk::out::Out;
 
 /// The head up to the title. The policy lets nothing but the two texts work, and no script that a table brings.
 const HEAD: &str = "<!doctype html>\n<html lang=\"en\"><head><meta charset=\"utf-8\">\n\
@@ -31,7 +30,7 @@ const END: &str = "<footer><p>Written by <code>acpi_dump --html</code>. A field 
 
 /// Prints the front of a page: its head, the links to the drawing, if it is there, the findings and each table, and the
 /// heading.
-pub(super) fn print_front(source: Source<'_>, sheets: &[Sheet<'_>], has_drawing: bool, out: &mut Out) {
+pub(super) fn print_front(source: Source<'_>, sheets: &[Sheet<'_>], has_drawing: bool, out: &mut Html) {
     let input = source.input.names;
     let (title, heading, first) = match source.first {
         Some(first) => ("$ to $", COMPARED, first.names),
@@ -39,18 +38,18 @@ pub(super) fn print_front(source: Source<'_>, sheets: &[Sheet<'_>], has_drawing:
     };
     let names = [Names(first), Names(input)];
     let drawing = if has_drawing { "<a href=\"#machine\">machine</a>" } else { "" };
-    print_html(HEAD, &[Markup(STYLE_HASH), Markup(SCRIPT_HASH)], out);
-    print_html(title, &names, out);
-    print_html(BODY, &[Markup(STYLE), Markup(drawing)], out);
+    out.fill(HEAD, &[Markup(STYLE_HASH), Markup(SCRIPT_HASH)]);
+    out.fill(title, &names);
+    out.fill(BODY, &[Markup(STYLE), Markup(drawing)]);
     for sheet in sheets {
         print_link(sheet, out);
     }
-    out.text("</nav>\n<main id=\"top\"><header><h1>ACPI tables");
-    print_html(heading, &names, out)
+    out.markup("</nav>\n<main id=\"top\"><header><h1>ACPI tables");
+    out.fill(heading, &names)
 }
 
 /// Prints the link to a table.
-fn print_link(sheet: &Sheet<'_>, out: &mut Out) {
+fn print_link(sheet: &Sheet<'_>, out: &mut Html) {
     let class = match sheet.standing {
         _ if sheet.entry.status.is_invalid() => " class=\"bad\"",
         _ if sheet.fold(0).has_findings => " class=\"warn\"",
@@ -58,10 +57,10 @@ fn print_link(sheet: &Sheet<'_>, out: &mut Out) {
         _ => " class=\"dif\"",
     };
     let pieces = [Id(sheet.id, None), Markup(class), Letters(sheet.signature)];
-    print_html("<a href=\"#$\"$>$</a>", &pieces, out)
+    out.fill("<a href=\"#$\"$>$</a>", &pieces)
 }
 
 /// Prints the end of a page.
-pub(super) fn print_end(out: &mut Out) {
-    print_html(END, &[Markup(SCRIPT)], out)
+pub(super) fn print_end(out: &mut Html) {
+    out.fill(END, &[Markup(SCRIPT)])
 }

@@ -1,13 +1,13 @@
 //! The ids by which the parts of a page are linked.
 
 use acpi_programs::input::entries::{Entry, own_signature};
-use acpi_programs::walk::out::Out;
+use std::fmt::{self, Display, Formatter};
 use zacpi::sdt::Signature;
 
 /// The id of a table: the letters of its signature, and its number from 1 on among the tables of the same letters. The
 /// ids of what isn't a table's aren't four letters long.
 #[derive(Clone, Copy)]
-pub(super) struct Id {
+pub struct Id {
     letters: [u8; 4],
     number: u64,
     /// Whether the table is one of the first one of two inputs.
@@ -41,15 +41,13 @@ impl Id {
         }
         Id { letters, number, is_first }
     }
+}
 
-    /// Prints it: `APIC`, or `SSDT.2` for the second one.
-    pub(super) fn print(self, out: &mut Out) {
-        if self.is_first {
-            out.text("first-");
-        }
-        out.bytes(&self.letters);
-        if self.number > 1 {
-            write!(out, ".{}", self.number);
-        }
+/// `APIC`, or `SSDT.2` for the second one.
+impl Display for Id {
+    fn fmt(&self, f: &mut Formatter<'_>) -> fmt::Result {
+        let front = if self.is_first { "first-" } else { "" };
+        write!(f, "{front}{}", self.letters.escape_ascii())?;
+        if self.number > 1 { write!(f, ".{}", self.number) } else { Ok(()) }
     }
 }

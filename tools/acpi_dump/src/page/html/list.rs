@@ -1,16 +1,16 @@
 //! The list of the tables.
 
+use super::escape::Html;
+use super::escape::Piece;
 use super::escape::Piece::{Bytes, Decimal, Hex, Id, Letters, Markup, Text};
-use super::escape::{Piece, print_html};
 use super::sheet::{Sheet, Standing};
 use acpi_programs::input::entries::{Place, header_of};
 use acpi_programs::input::status::Status;
 use acpi_programs::walk::layouts::title_of;
-use acpi_programs::walk::out::Out;
 
 /// Prints the list of tables.
-pub(super) fn print_list(sheets: &[Sheet<'_>], out: &mut Out) {
-    out.text(
+pub(super) fn print_list(sheets: &[Sheet<'_>], out: &mut Html) {
+    out.markup(
         "<section id=\"tables\"><h2>The tables <span class=\"tools\" hidden><button data-all=\"1\">Unfold all</button> \
          <button data-all=\"0\">Fold all</button></span></h2>\n\
          <div class=\"scroll\" tabindex=\"0\" role=\"region\" aria-label=\"List of the tables\"><table class=\"list\">\
@@ -22,14 +22,14 @@ pub(super) fn print_list(sheets: &[Sheet<'_>], out: &mut Out) {
     for sheet in sheets {
         print_row(sheet, out);
     }
-    out.text("</table></div></section>\n");
+    out.markup("</table></div></section>\n");
 }
 
 /// Prints the row of a table.
-fn print_row(sheet: &Sheet<'_>, out: &mut Out) {
+fn print_row(sheet: &Sheet<'_>, out: &mut Html) {
     let class = if sheet.id.is_first { " class=\"del\"" } else { "" };
     let [badge, status, standing] = badges_of(sheet);
-    print_html(
+    out.fill(
         "<tr$><th scope=\"row\"><a href=\"#$\">$</a><td class=\"w\">$<td><span class=\"$\">$</span>$\
          <td><code>$</code><td class=\"num\">$<td class=\"num\">",
         &[
@@ -43,10 +43,9 @@ fn print_row(sheet: &Sheet<'_>, out: &mut Out) {
             place_of(sheet),
             Decimal(sheet.entry.bytes.len() as u64),
         ],
-        out,
     );
     match header_of(sheet.entry) {
-        Some(header) => print_html(
+        Some(header) => out.fill(
             "$<td class=\"w\"><code>$</code><td class=\"w\"><code>$</code><td class=\"w num\">$\
              <td class=\"w\"><code>$</code>\n",
             &[
@@ -56,9 +55,8 @@ fn print_row(sheet: &Sheet<'_>, out: &mut Out) {
                 Hex(header.oem_revision as u64),
                 Bytes(&header.creator_id.to_le_bytes()),
             ],
-            out,
         ),
-        None => out.text("<td class=\"w\"><td class=\"w\"><td class=\"w\"><td class=\"w\">\n"),
+        None => out.markup("<td class=\"w\"><td class=\"w\"><td class=\"w\"><td class=\"w\">\n"),
     }
 }
 

@@ -1,14 +1,14 @@
 //! The machine as a drawing: a tile for each domain, controller, unit and so on, in which a structure is a box.
 
 use super::drawn::{line_of, print_line};
+use super::escape::Html;
 use super::escape::Piece::Text;
-use super::escape::{print_html, word_if};
+use super::escape::word_if;
 use super::matrices::print_matrices;
 use super::sheet::{Sheet, classes_of};
 use super::tile::Tile;
 use super::values::print_digest;
 use acpi_programs::walk::language::{next_word, number_at, number_of};
-use acpi_programs::walk::out::Out;
 use acpi_programs::walk::share::share_of;
 use zacpi::base::model::IsaOverrides;
 use zacpi::platform::interrupt::{InterruptSourceOverride, Polarity, TriggerMode};
@@ -159,7 +159,7 @@ fn pin_of(sheet: &Sheet<'_>, interrupt: u64) -> Option<(usize, u64)> {
 }
 
 /// Prints the tiles of the drawing: none if there is nothing to draw.
-pub(super) fn print_machine(sheets: &[Sheet<'_>], out: &mut Out) {
+pub(super) fn print_machine(sheets: &[Sheet<'_>], out: &mut Html) {
     let mut shapes = Vec::new();
     for (table, sheet) in sheets.iter().enumerate() {
         if sheet.is_drawn() {
@@ -175,22 +175,22 @@ pub(super) fn print_machine(sheets: &[Sheet<'_>], out: &mut Out) {
 }
 
 /// Prints the tiles of structures in order.
-fn print_tiles(sheets: &[Sheet<'_>], shapes: &[Shape], out: &mut Out) {
+fn print_tiles(sheets: &[Sheet<'_>], shapes: &[Shape], out: &mut Html) {
     for some in shapes.chunk_by(|shape, next| shape.tile == next.tile) {
         print_tile(sheets, some, out);
     }
 }
 
 /// Prints the front of a tile of a kind and a number.
-fn print_title(sheet: &Sheet<'_>, kind: u64, number: u64, out: &mut Out) {
+fn print_title(sheet: &Sheet<'_>, kind: u64, number: u64, out: &mut Html) {
     if kind == DOMAINS {
         let domain = "<figure class=\"tile d%\"><div><figcaption><h3>Domain %</h3>";
         return out.words(domain, &[number % 6, number]);
     }
-    out.text("<figure class=\"tile\"><div><figcaption><h3>");
+    out.markup("<figure class=\"tile\"><div><figcaption><h3>");
     let title = TITLES.get(kind as usize).unwrap_or(&"");
     print_line(sheet, number as usize, title, out);
-    out.text("</h3>")
+    out.markup("</h3>")
 }
 
 /// How many boxes are beside each other in a tile of a kind, for this many structures.
@@ -203,7 +203,7 @@ fn columns_of(kind: u64, count: usize) -> u64 {
 }
 
 /// Prints a tile of structures.
-fn print_tile(sheets: &[Sheet<'_>], shapes: &[Shape], out: &mut Out) {
+fn print_tile(sheets: &[Sheet<'_>], shapes: &[Shape], out: &mut Html) {
     if let [first, ..] = shapes
         && let Some(sheet) = sheets.get(first.tile.1)
     {
@@ -253,7 +253,7 @@ fn add_box(sheet: &Sheet<'_>, some: &[Shape], tile: &mut Tile) {
             tile.title.words(words, &[some.len() as u64]);
         }
         let state = word_if(first.class == "cpu off", "disabled: ");
-        print_html("$$: ", &[state, Text(structure.name)], &mut tile.title);
+        tile.title.fill("$$: ", &[state, Text(structure.name)]);
         print_digest(sheet.side, first.part, structure, &mut tile.title);
         let target = Some((sheet, structure.offset));
         tile.add(target, first.class, marks_of(sheet, some))

@@ -1,11 +1,10 @@
 //! Distances, latencies and bandwidths between domains, as matrices of boxes.
 
+use super::escape::Html;
 use super::escape::Piece::{Decimal, Printed, Text};
-use super::escape::print_html;
 use super::sheet::{Sheet, classes_of};
 use super::tile::Tile;
 use acpi_programs::walk::matrix::{Matrix, matrix_of};
-use acpi_programs::walk::out::Out;
 
 /// How many rows and columns of a matrix are drawn at most.
 const SHOWN: usize = 16;
@@ -14,7 +13,7 @@ const SHOWN: usize = 16;
 const STEPS: [&str; 4] = ["k0", "k1", "k2", "k3"];
 
 /// Prints the matrices of the SLITs and HMATs that are read, a tile for each.
-pub(super) fn print_matrices(sheets: &[Sheet<'_>], out: &mut Out) {
+pub(super) fn print_matrices(sheets: &[Sheet<'_>], out: &mut Html) {
     for sheet in sheets {
         for part in sheet.side.parts {
             let bytes = match part.kind {
@@ -32,16 +31,16 @@ pub(super) fn print_matrices(sheets: &[Sheet<'_>], out: &mut Out) {
 }
 
 /// Prints the tile of a matrix at an offset of a table.
-fn print_matrix(sheet: &Sheet<'_>, offset: u64, matrix: Matrix<'_>, out: &mut Out) {
+fn print_matrix(sheet: &Sheet<'_>, offset: u64, matrix: Matrix<'_>, out: &mut Html) {
     let (all, others) = (matrix.rows, matrix.columns);
     let (rows, columns) = (all.min(SHOWN), others.min(SHOWN));
     let first = if all > rows || others > columns { " the first ones of $ to $," } else { "" };
     let title = [Text(matrix.words), Text(matrix.unit)];
     let front = "<figure class=\"tile\"><div><figcaption><h3>$</h3><p>$";
-    print_html(front, &title, out);
+    out.fill(front, &title);
     let counts = [Decimal(all as u64), Decimal(others as u64)];
-    print_html(first, &counts, out);
-    out.text(" from the left to the top</p>");
+    out.fill(first, &counts);
+    out.markup(" from the left to the top</p>");
     let mut tile = Tile::new(columns as u64 + 1);
     tile.add(None, "", "");
     for column in 0..columns {
@@ -85,11 +84,11 @@ fn add_value(sheet: &Sheet<'_>, offset: u64, matrix: Matrix<'_>, place: (usize, 
             STEPS.get(steps as usize).copied().unwrap_or("k4")
         }
         None => {
-            tile.text.text("-");
+            tile.text.markup("-");
             "rail"
         }
     };
-    print_html(
+    tile.title.fill(
         "$ from $ to $: $",
         &[
             Text(matrix.words),
@@ -97,7 +96,6 @@ fn add_value(sheet: &Sheet<'_>, offset: u64, matrix: Matrix<'_>, place: (usize, 
             Decimal(matrix.name(matrix.rows.saturating_add(column))),
             Printed(&tile.text),
         ],
-        &mut tile.title,
     );
     let at = offset.saturating_add(matrix.offset(row, column) as u64);
     let marks = classes_of(sheet.seen(at, matrix.width as u64, (0, false)));

@@ -1,8 +1,10 @@
 //! The fields of a table: a row for each, in folds by the structures that they are in.
 
+use crate::text::printed;
 use super::code::print_code;
+use super::escape::Html;
 use super::escape::Piece::{Bytes, Decimal, Digits, Hex, Id, Name, Offset, Text, Value};
-use super::escape::{print_html, word_if};
+use super::escape::word_if;
 use super::findings::print_findings_of;
 use super::ids;
 use super::marks::{Change, Mark};
@@ -10,9 +12,7 @@ use super::sheet::{Sheet, Standing};
 use super::values::{print_change, print_digest, print_reference, print_value, structure_of};
 use crate::compare::outline::{BYTES, Item, MALFORMED, Part};
 use acpi_programs::input::entries::header_of;
-use acpi_programs::rattle::alloc::Global;
 use acpi_programs::walk::language::number_at;
-use acpi_programs::walk::out::Out;
 use zacpi::sdt::SdtHeader;
 
 /// From how many structures of one name in a row on they are in a fold.
@@ -34,7 +34,7 @@ struct Rows<'s, 'p, 'o> {
     sheet: &'s Sheet<'p>,
     /// All tables on the page.
     sheets: &'s [Sheet<'p>],
-    out: &'o mut Out,
+    out: &'o mut Html,
     /// The structure that begins next.
     next: usize,
     /// The structure whose fields come.
@@ -46,7 +46,7 @@ struct Rows<'s, 'p, 'o> {
 }
 
 /// Prints the fields of a table, and what only that of the first input has.
-pub(super) fn print_rows<'p>(sheet: &Sheet<'p>, sheets: &[Sheet<'p>], out: &mut Out) {
+pub(super) fn print_rows<'p>(sheet: &Sheet<'p>, sheets: &[Sheet<'p>], out: &mut Html) {
     let mut rows = Rows { sheet, sheets, out, next: 1, open: 0, group: 0, end: "" };
     if let Some(header) = &header_of(sheet.entry) {
         rows.begin_header(header);
@@ -65,14 +65,14 @@ impl Rows<'_, '_, '_> {
     /// Begins the rows of fields that follow each other, unless they have begun.
     fn start(&mut self) {
         if self.end.is_empty() {
-            self.out.text("<table class=\"fl\">");
+            self.out.markup("<table class=\"fl\">");
             self.end = ROWS_END;
         }
     }
 
     /// Ends the rows that have begun.
     fn end(&mut self) {
-        self.out.text(self.end);
+        self.out.markup(self.end);
         self.end = "";
     }
 
@@ -81,12 +81,11 @@ impl Rows<'_, '_, '_> {
         let sheet = self.sheet;
         let marks = sheet.classes(0, HEADER);
         let is_open = marks.starts_with(" hit") || sheet.entry.status.is_invalid();
-        print_html(
+        self.out.fill(
             "<details class=\"s hd$\"$><summary data-o=\"0\" data-n=\"24\"><span>0000</span> Header <small>$ $</small>\
              </summary>\n<table class=\"fl\"><thead><tr><th scope=\"col\">Offset<th scope=\"col\">Field\
              <th scope=\"col\">Value<th scope=\"col\">Meaning<tbody>\n",
             &[Text(marks), word_if(is_open, " open"), Bytes(&header.oem_id), Bytes(&header.oem_table_id)],
-            self.out,
         );
         self.end = HEADER_END;
     }
@@ -125,7 +124,7 @@ impl Rows<'_, '_, '_> {
         let is_compared = matches!(sheet.standing, Standing::Beside(_));
         let is_changed = fold.has_changes && !fold.is_added;
         let is_open = fold.has_findings || is_changed || is_short && !is_compared;
-        print_html(
+        self.out.fill(
             "<details class=\"s$$$\"$><summary data-o=\"$\" data-n=\"$\"><span>$</span> $ <small>$",
             &[
                 word_if(fold.is_added, " new"),
@@ -138,10 +137,9 @@ impl Rows<'_, '_, '_> {
                 Text(part.name),
                 word_if(fold.is_added, "added: "),
             ],
-            self.out,
         );
         print_digest(sheet.side, number, part, self.out);
-        self.out.text("</small></summary>\n");
+        self.out.markup("</small></summary>\n");
     }
 
     /// Begins the fold of a row of structures of one name, if these are many from this one on.
@@ -165,7 +163,7 @@ impl Rows<'_, '_, '_> {
             return;
         }
         self.group = last;
-        print_html(
+        self.out.fill(
             "<details class=\"g$\"><summary>$ <b>×$</b> <small>$ to $</small></summary>\n",
             &[
                 word_if(has_changes, " chg"),
@@ -174,7 +172,6 @@ impl Rows<'_, '_, '_> {
                 Hex(part.offset),
                 Hex(end.saturating_sub(1)),
             ],
-            self.out,
         )
     }
 
@@ -186,9 +183,9 @@ impl Rows<'_, '_, '_> {
                 break;
             }
             self.end();
-            self.out.text("</details>\n");
+            self.out.markup("</details>\n");
             if self.open == self.group {
-                self.out.text("</details>\n");
+                self.out.markup("</details>\n");
                 self.group = 0;
             }
             self.open = match sheet.side.parts.get(self.open) {
@@ -268,9 +265,9 @@ impl Rows<'_, '_, '_> {
         let offset = item.offset;
         let id = Id(sheet.id, Some(offset));
         let start = if item.length > 0 { "<tr id=\"$\"" } else { "<tr" };
-        print_html(start, &[id], self.out);
+        self.out.fill(start, &[id]);
         if item.name == MALFORMED {
-            return print_html(" class=\"wrong\"><td>$", &[Offset(offset)], self.out);
+            return self.out.fill(" class=\"wrong\"><td>$", &[Offset(offset)]);
         }
         let change = match mark.change {
             Change::Same => "",
@@ -278,10 +275,9 @@ impl Rows<'_, '_, '_> {
             Change::From(_) => " chg",
         };
         let found = if mark.findings.0 < mark.findings.1 { sheet.classes(offset, item.length.max(1)) } else { "" };
-        print_html(
+        self.out.fill(
             " class=\"f$$$\"><td><a href=\"#$\">$</a>",
             &[Digits(offset), Text(change), Text(found), id, Offset(offset)],
-            self.out,
         )
     }
 
@@ -294,16 +290,14 @@ impl Rows<'_, '_, '_> {
         for (part, field) in sheet.marks.gone.iter() {
             self.start();
             if let Some(item) = old.item(*field) {
-                print_html(
+                self.out.fill(
                     "<tr class=\"del\"><td>$<th scope=\"row\">$<td><del>$</del><td><div><del>$</del></div>\n",
                     &[Offset(item.offset), Name(item), Value(old.digits(item)), Text(old.meaning(item))],
-                    self.out,
                 )
             } else {
-                let mut path = Out::new(Global);
-                old.print_path(*part, &mut path);
+                let path = printed(|path| old.print_path(*part, path));
                 let row = "<tr class=\"del\"><td>$<th scope=\"row\"><del>$</del><td><td>only in the first\n";
-                print_html(row, &[Offset(old.offset(*part)), Bytes(path.since(0))], self.out)
+                self.out.fill(row, &[Offset(old.offset(*part)), Text(&path)])
             }
         }
         self.end();

@@ -1,41 +1,39 @@
 //! A table on a page: its fields beside its bytes.
 
 use super::bytes::print_bytes;
+use super::escape::Html;
 use super::escape::Piece::{Decimal, Id, Letters, Markup, Text};
-use super::escape::print_html;
 use super::list::{badges_of, place_of};
 use super::rows::print_rows;
 use super::sheet::{Sheet, Standing};
 use acpi_programs::input::entries::header_of;
 use acpi_programs::walk::layouts::title_of;
-use acpi_programs::walk::out::Out;
 
 /// From how many bytes on a table is folded.
 const LONG: usize = 4096;
 
 /// Prints the section of a table.
-pub(super) fn print_table<'p>(sheet: &Sheet<'p>, sheets: &[Sheet<'p>], out: &mut Out) {
+pub(super) fn print_table<'p>(sheet: &Sheet<'p>, sheets: &[Sheet<'p>], out: &mut Html) {
     print_beginning(sheet, out);
     print_rows(sheet, sheets, out);
-    print_html(
+    out.fill(
         "</div><div class=\"bs\"><p class=\"o\"><output></output></p>\
          <pre tabindex=\"0\" role=\"region\" aria-label=\"Bytes of $\">",
         &[Letters(sheet.signature)],
-        out,
     );
     print_bytes(sheet.entry.bytes, Some(sheet), out);
-    out.text("</pre>");
+    out.markup("</pre>");
     if let Standing::Beside(old) = sheet.standing {
-        out.text("<details class=\"old\"><summary>bytes in the first input</summary><pre>");
+        out.markup("<details class=\"old\"><summary>bytes in the first input</summary><pre>");
         print_bytes(old.table, None, out);
-        out.text("</pre></details>");
+        out.markup("</pre></details>");
     }
-    out.text("</div></div></details></section>\n");
+    out.markup("</div></div></details></section>\n");
 }
 
 /// Prints what a table's section begins with: what it is called, and what there is to say of it. It begins unfolded
 /// unless it is a table of AML, long, or the same in both inputs.
-fn print_beginning(sheet: &Sheet<'_>, out: &mut Out) {
+fn print_beginning(sheet: &Sheet<'_>, out: &mut Html) {
     let (class, is_same) = match sheet.standing {
         Standing::Alone | Standing::Beside(_) => ("t", false),
         Standing::Same => ("t same", true),
@@ -44,7 +42,7 @@ fn print_beginning(sheet: &Sheet<'_>, out: &mut Out) {
     let is_long = sheet.entry.bytes.len() >= LONG || sheet.is(b"DSDT") || sheet.is(b"SSDT");
     let open = if is_long || is_same { "" } else { " open" };
     let [badge, status, standing] = badges_of(sheet);
-    print_html(
+    out.fill(
         "<section class=\"$\" id=\"$\"><details$><summary class=\"th\"><h2>$</h2> <span class=\"ti\">$</span> \
          <span class=\"$\">$</span>$",
         &[
@@ -57,7 +55,6 @@ fn print_beginning(sheet: &Sheet<'_>, out: &mut Out) {
             status,
             standing,
         ],
-        out,
     );
     let mut count = 0usize;
     for mark in sheet.marks.fields.iter() {
@@ -68,9 +65,9 @@ fn print_beginning(sheet: &Sheet<'_>, out: &mut Out) {
         out.words(words, &[count as u64]);
     }
     let length = Decimal(sheet.entry.bytes.len() as u64);
-    print_html("<small>$ · $ bytes", &[place_of(sheet), length], out);
+    out.fill("<small>$ · $ bytes", &[place_of(sheet), length]);
     if let Some(header) = &header_of(sheet.entry) {
         out.words(" · revision %", &[header.revision as u64]);
     }
-    out.text("</small></summary>\n<div class=\"two\"><div class=\"fs\">");
+    out.markup("</small></summary>\n<div class=\"two\"><div class=\"fs\">");
 }

@@ -1,10 +1,9 @@
 //! The tiles of the drawing: boxes in rows, each of which leads to its bytes.
 
+use super::escape::Html;
+use super::escape::Piece;
 use super::escape::Piece::{Decimal, Printed, Text};
-use super::escape::{Piece, print_html};
 use super::sheet::Sheet;
-use acpi_programs::rattle::alloc::Global;
-use acpi_programs::walk::out::Out;
 
 /// How wide a tile is, how high a row of boxes is, and how much of that and of a box's width is a gap.
 const WIDTH: u64 = 340;
@@ -18,10 +17,10 @@ pub(super) struct Tile {
     /// How many boxes like the next one are beside each other.
     pub(super) columns: u64,
     /// The next box's text, escaped, which is written in it if it fits.
-    pub(super) text: Out,
+    pub(super) text: Html,
     /// The next box's title, escaped, which is shown under the pointer.
-    pub(super) title: Out,
-    boxes: Out,
+    pub(super) title: Html,
+    boxes: Html,
     x: u64,
     y: u64,
 }
@@ -29,7 +28,7 @@ pub(super) struct Tile {
 impl Tile {
     /// A tile without boxes.
     pub(super) fn new(columns: u64) -> Tile {
-        Tile { columns, text: Out::new(Global), title: Out::new(Global), boxes: Out::new(Global), x: 0, y: 0 }
+        Tile { columns, text: Html::default(), title: Html::default(), boxes: Html::default(), x: 0, y: 0 }
     }
 
     /// Draws a box that leads to a byte of a table, or only its text, beside the one before if it fits there. The marks
@@ -44,7 +43,7 @@ impl Tile {
             self.add_rect(sheet.link(offset), class, marks, width);
         }
         self.add_text(width);
-        self.boxes.text(if target.is_some() { "</a>\n" } else { "\n" });
+        self.boxes.markup(if target.is_some() { "</a>\n" } else { "\n" });
         self.x = self.x.saturating_add(width);
         self.text.clear();
         self.title.clear()
@@ -52,7 +51,7 @@ impl Tile {
 
     /// Draws the box itself, of a width with its gap, as a link that ends after the text.
     fn add_rect(&mut self, link: Piece<'static>, class: &'static str, marks: &'static str, width: u64) {
-        print_html(
+        self.boxes.fill(
             "<a class=\"$\" href=\"#$\"><title>$</title>\
              <rect class=\"$\" x=\"$\" y=\"$\" width=\"$\" height=\"$\"/>",
             &[
@@ -65,7 +64,6 @@ impl Tile {
                 Decimal(width.saturating_sub(GAP)),
                 Decimal(HEIGHT - GAP),
             ],
-            &mut self.boxes,
         )
     }
 
@@ -77,7 +75,7 @@ impl Tile {
             2..=8 => ("c", 8, middle),
             _ => ("s c", 7, middle),
         };
-        if (self.text.length() as u64).saturating_mul(letter) <= width {
+        if (self.text.as_str().len() as u64).saturating_mul(letter) <= width {
             let place = [
                 Text(class),
                 Decimal(self.x.saturating_add(start)),
@@ -85,17 +83,16 @@ impl Tile {
                 Printed(&self.text),
             ];
             let text = "<text class=\"$\" x=\"$\" y=\"$\">$</text>";
-            print_html(text, &place, &mut self.boxes)
+            self.boxes.fill(text, &place)
         }
     }
 
     /// Prints the tile after its title.
-    pub(super) fn print(self, out: &mut Out) {
+    pub(super) fn print(self, out: &mut Html) {
         let height = Decimal(self.y.saturating_add(HEIGHT));
-        print_html(
+        out.fill(
             "</figcaption><svg viewBox=\"0 0 $ $\" role=\"group\">\n$</svg></div></figure>\n",
             &[Decimal(WIDTH), height, Printed(&self.boxes)],
-            out,
         )
     }
 }

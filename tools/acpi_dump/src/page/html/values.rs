@@ -1,12 +1,12 @@
 //! The names, values and meanings of fields.
 
+use super::escape::Html;
 use super::escape::Piece::{Hex, Id, Name, Text, Value, Words};
-use super::escape::{Piece, print_html, word_if};
+use super::escape::{Piece, word_if};
 use super::ids;
 use crate::compare::outline::{BYTES, Item, MALFORMED, Part, Side};
 use acpi_programs::rattle::Pieces;
 use acpi_programs::walk::language::{next_word, number_at};
-use acpi_programs::walk::out::Out;
 use zacpi::sdt::Signature;
 
 /// From how many letters on a meaning is in a box of a few lines.
@@ -47,47 +47,46 @@ pub(super) fn structure_of(signature: Signature, side: Side<'_>, item: &Item) ->
 }
 
 /// Prints the name and the value of a field, and the structure whose offset it is, which leads to that.
-pub(super) fn print_reference<'p>(side: Side<'p>, item: &'p Item, part: &'p Part, link: Piece<'p>, out: &mut Out) {
-    print_html(
+pub(super) fn print_reference<'p>(side: Side<'p>, item: &'p Item, part: &'p Part, link: Piece<'p>, out: &mut Html) {
+    out.fill(
         "<th scope=\"row\">$<td>$<td><a href=\"#$\">$ at $</a>\n",
         &[Name(item), Value(side.digits(item)), link, Text(part.name), Hex(part.offset)],
-        out,
     )
 }
 
 /// Prints the name, the value and the meaning of a field. The value leads to a table if it is the address of one.
-pub(super) fn print_value(side: Side<'_>, item: &Item, target: Option<ids::Id>, out: &mut Out) {
-    print_html("<th scope=\"row\">$<td>", &[Name(item)], out);
+pub(super) fn print_value(side: Side<'_>, item: &Item, target: Option<ids::Id>, out: &mut Html) {
+    out.fill("<th scope=\"row\">$<td>", &[Name(item)]);
     let value = Value(side.digits(item));
     match target {
-        Some(table) => print_html("<a href=\"#$\">$</a>", &[Id(table, None), value], out),
-        None => print_html("$", &[value], out),
+        Some(table) => out.fill("<a href=\"#$\">$</a>", &[Id(table, None), value]),
+        None => out.fill("$", &[value]),
     }
     let meaning = side.meaning(item);
     let cell = if meaning.len() > LONG { "<td><div>$</div>\n" } else { "<td>$\n" };
-    print_html(cell, &[Text(meaning)], out)
+    out.fill(cell, &[Text(meaning)])
 }
 
 /// Prints the name, the value and the meaning of a field, each with what the first input has, if that differs.
-pub(super) fn print_change(old: Side<'_>, was: &Item, side: Side<'_>, item: &Item, out: &mut Out) {
+pub(super) fn print_change(old: Side<'_>, was: &Item, side: Side<'_>, item: &Item, out: &mut Html) {
     let (old_digits, digits) = (old.digits(was), side.digits(item));
     let (meant, meaning) = (old.meaning(was), side.meaning(item));
     let (is_value, is_meaning) = (old_digits == digits, meant == meaning);
-    print_html("<th scope=\"row\">$<td>", &[Name(item)], out);
+    out.fill("<th scope=\"row\">$<td>", &[Name(item)]);
     print_changed(Value(old_digits), Value(digits), is_value, out);
-    out.text("<td><div>");
+    out.markup("<td><div>");
     print_changed(Text(meant), Text(meaning), is_meaning, out);
     let is_hidden = is_value && is_meaning;
-    out.text(if is_hidden { " other bytes</div>\n" } else { "</div>\n" })
+    out.markup(if is_hidden { " other bytes</div>\n" } else { "</div>\n" })
 }
 
 /// Prints a text, after the one of the first input unless it is the same.
-fn print_changed(was: Piece<'_>, is: Piece<'_>, is_same: bool, out: &mut Out) {
-    if is_same { print_html("$", &[is], out) } else { print_html("<del>$</del> <ins>$</ins>", &[was, is], out) }
+fn print_changed(was: Piece<'_>, is: Piece<'_>, is_same: bool, out: &mut Html) {
+    if is_same { out.fill("$", &[is]) } else { out.fill("<del>$</del> <ins>$</ins>", &[was, is]) }
 }
 
 /// Prints the first fields that tell of a folded structure what it is, or the path of an object.
-pub(super) fn print_digest(side: Side<'_>, number: usize, part: &Part, out: &mut Out) {
+pub(super) fn print_digest(side: Side<'_>, number: usize, part: &Part, out: &mut Html) {
     let mut count = 0usize;
     for item in side.items_in(number) {
         if item.part == number && tells(item) && count < 4 {
@@ -96,7 +95,7 @@ pub(super) fn print_digest(side: Side<'_>, number: usize, part: &Part, out: &mut
                 if meaning.is_empty() || part.own.is_some() { Value(side.digits(item)) } else { Words(meaning, 48) };
             let name = if part.own.is_some() { "" } else { item.name };
             let pieces = [word_if(count > 0, ", "), Text(name), value];
-            print_html("$$ $", &pieces, out);
+            out.fill("$$ $", &pieces);
             count = count.saturating_add(1);
         }
     }
