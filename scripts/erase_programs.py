@@ -12,7 +12,7 @@ MODULES = {'acpi_cli': 'cli', 'acpi_image_reader': 'image_reader', 'acpi_image':
 PROGRAMS = ['acpi_view', 'acpi_pack']
 NAME = 'acpi_programs'
 # Where the package has what is of Rattle's std.
-STD = ['alloc', 'collections', 'vec', 'string', 'boxed', 'num', 'io', 'fs', 'env', 'process', 'os', 'rt', 'time']
+STD = ['alloc', 'collections', 'vec', 'string', 'boxed', 'io', 'fs', 'env', 'process', 'os', 'rt', 'time']
 # Functions that the library's package has without the allocator that they are passed in Rattle.
 GLOBAL = (r'(?P<call>\.platform_info)\([^()]*(?:\([^()]*\))?\)',
           r'\b(?P<path>(?:ManagedSlice|PciConfigRegions|PlatformInfo|GicModel|MemoryAffinities)::new)\('

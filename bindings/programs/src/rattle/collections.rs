@@ -29,24 +29,8 @@ impl<K: Ord, V, A: Allocator> BTreeMap<K, V, A> {
         size_of::<K>() + size_of::<V>()
     }
 
-    pub fn get(&self, key: &K) -> Option<&V> {
-        self.map.get(key)
-    }
-
-    pub fn len(&self) -> usize {
-        self.map.len()
-    }
-
-    pub fn is_empty(&self) -> bool {
-        self.map.is_empty()
-    }
-
     pub fn range<R: RangeBounds<K>>(&self, range: R) -> btree_map::Range<'_, K, V> {
         self.map.range(range)
-    }
-
-    pub fn iter(&self) -> btree_map::Iter<'_, K, V> {
-        self.map.iter()
     }
 }
 

@@ -20,11 +20,3 @@ pub use slices::{CollectIn, ToVecIn};
 pub use string::{String, TryToString as ToString};
 pub use vec::Vec;
 pub use zacpi::TryClone;
-
-/// Conversions that round.
-pub mod num {
-    /// The nearest number.
-    pub fn nearest_u64_to_f64(x: u64) -> f64 {
-        x as f64
-    }
-}

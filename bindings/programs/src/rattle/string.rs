@@ -27,24 +27,8 @@ impl<A: Allocator> String<A> {
         Ok(())
     }
 
-    pub fn push(&mut self, c: char) -> Result<(), AllocError> {
-        self.push_str(c.encode_utf8(&mut [0; 4]))
-    }
-
     pub fn as_str(&self) -> &str {
         &self.text
-    }
-
-    pub fn allocator(&self) -> &A {
-        &self.allocator
-    }
-
-    pub fn clear(&mut self) {
-        self.text.clear();
-    }
-
-    pub fn truncate(&mut self, len: usize) {
-        self.text.truncate(len);
     }
 
     /// What `write!` calls: unlike Rust's, its error is `AllocError`.

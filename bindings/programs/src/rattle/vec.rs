@@ -52,22 +52,12 @@ impl<T, A: Allocator> Vec<T, A> {
         Ok(())
     }
 
-    pub fn reserve_exact(&mut self, more: usize) -> Result<(), AllocError> {
-        let wanted = self.len().checked_add(more).ok_or(AllocError)?;
-        self.grow(wanted)
-    }
-
     pub fn push(&mut self, item: T) -> Result<(), AllocFailed<T>> {
         if self.reserve(1).is_err() {
             return Err(AllocFailed(item));
         }
         self.items.push(item);
         Ok(())
-    }
-
-    /// Adds an item that there is room for already.
-    pub fn push_reserved(&mut self, item: T) {
-        self.items.push(item);
     }
 
     pub fn pop(&mut self) -> Option<T> {
@@ -82,24 +72,12 @@ impl<T, A: Allocator> Vec<T, A> {
         self.items.truncate(len);
     }
 
-    pub fn allocator(&self) -> &A {
-        &self.allocator
-    }
-
     pub fn as_slice(&self) -> &[T] {
         self.items.as_slice()
     }
 
     pub fn as_mut_slice(&mut self) -> &mut [T] {
         self.items.as_mut_slice()
-    }
-
-    pub fn len(&self) -> usize {
-        self.as_slice().len()
-    }
-
-    pub fn is_empty(&self) -> bool {
-        self.as_slice().is_empty()
     }
 
     /// `len` clones of a value.
@@ -188,37 +166,6 @@ impl<T, A: Allocator> Vec<T, A> {
 
     pub fn remove(&mut self, at: usize) -> T {
         self.items.remove(at)
-    }
-
-    pub fn swap_remove(&mut self, at: usize) -> T {
-        self.items.swap_remove(at)
-    }
-
-    pub fn insert(&mut self, at: usize, item: T) -> Result<(), AllocFailed<T>> {
-        if self.reserve(1).is_err() {
-            return Err(AllocFailed(item));
-        }
-        self.items.insert(at, item);
-        Ok(())
-    }
-
-    pub fn resize(&mut self, len: usize, value: T) -> Result<(), AllocError>
-    where
-        T: Clone,
-    {
-        if len > self.len() {
-            self.reserve(len - self.len())?;
-        }
-        self.items.resize(len, value);
-        Ok(())
-    }
-
-    pub fn drain<R: core::ops::RangeBounds<usize>>(&mut self, range: R) -> std::vec::Drain<'_, T> {
-        self.items.drain(range)
-    }
-
-    pub fn retain<F: FnMut(&T) -> bool>(&mut self, keep: F) {
-        self.items.retain(keep);
     }
 
     /// Sorts, stably.

@@ -1,8 +1,8 @@
 //! What the rules find.
 
-use crate::text::text_of;
 use crate::check::numbers::Numbers;
 use crate::check::rules::{Finding, Rule};
+use crate::text::text_of;
 use acpi_programs::input::entries::{Entry, own_signature};
 use acpi_programs::rattle::alloc::Global;
 use acpi_programs::walk::out::Out;

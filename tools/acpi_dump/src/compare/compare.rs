@@ -6,8 +6,8 @@ mod objects;
 mod pairs;
 mod pieces;
 
-use crate::text::granted;
 use crate::compare::outline::{Side, items_of};
+use crate::text::granted;
 use acpi_programs::code::Known as Names;
 use acpi_programs::input::entries::{Entry, print_name};
 use acpi_programs::rattle::alloc::Global;

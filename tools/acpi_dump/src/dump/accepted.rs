@@ -1,8 +1,8 @@
 //! What is left out of what rules find: the findings of an earlier check, and those that a list accepts.
 
-use crate::text::printed;
 use crate::check::rules::{Finding, rule_of};
 use crate::dump::arguments::Request;
+use crate::text::printed;
 use acpi_programs::input::entries::{Entry, own_signature};
 use acpi_programs::input::errors::{Log, Stop, fail, tell};
 use acpi_programs::input::sources::{Sources, reason_of};

@@ -1,11 +1,11 @@
 //! The contents of chosen tables.
 
-use crate::text::granted;
 use crate::compare::compare::code::names_in;
 use crate::dump::getters::print_getters;
 use crate::dump::options::{Choice, Contents};
 use crate::dump::paint::Paint;
 use crate::summary::document::{Document, Part, add_table};
+use crate::text::granted;
 use acpi_programs::code::text::CodeText;
 use acpi_programs::code::{Known, Paths, list_table};
 use acpi_programs::input::dumped::print_dumped;

@@ -21,11 +21,11 @@ mod table;
 mod tile;
 mod values;
 
-use crate::text::granted;
 use crate::check::rules::Finding;
 use crate::compare::compare::code::names_in;
 use crate::compare::compare::{differences, same_in};
 use crate::compare::outline::{Items, Side, items_of};
+use crate::text::granted;
 use acpi_programs::code::Known as Names;
 use acpi_programs::input::entries::Entry;
 use acpi_programs::rattle::alloc::Global;

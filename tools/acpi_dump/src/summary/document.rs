@@ -6,8 +6,8 @@ mod constants;
 mod machine;
 mod tables;
 
-use crate::text::{printed, text_of};
 use crate::json::{Pretty, Token};
+use crate::text::{printed, text_of};
 use acpi_programs::rattle::Pieces;
 use acpi_programs::rattle::alloc::Global;
 use acpi_programs::walk::aml::{Ends, Object, Value};

@@ -1,7 +1,7 @@
 //! The lines of methods' code that differ.
 
-use crate::text::{granted, text_of};
 use super::known::Known;
+use crate::text::{granted, text_of};
 use acpi_programs::code::changes::{Lines, ShowLines, show_changes};
 use acpi_programs::code::{Extent, Known as Names, Paths, paths_of};
 use acpi_programs::input::entries::Entry;

@@ -1,12 +1,12 @@
 //! The objects of AML that differ between two tables, paired by their paths.
 
-use crate::text::text_of;
 use super::code::{Code, CodeChanges};
 use super::known::{Known, objects_of};
 use super::pairs::Pairs;
 use super::pieces::{cut_piece, elements_of, head_of, inner, keys_of, step_of};
 use super::{Difference, Title};
 use crate::compare::outline::Side;
+use crate::text::text_of;
 use acpi_programs::code::Known as Names;
 use acpi_programs::rattle::alloc::Global;
 use acpi_programs::walk::out::Out;

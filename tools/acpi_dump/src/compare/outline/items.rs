@@ -1,7 +1,7 @@
 //! How the structures and items of a table are gathered.
 
-use crate::text::text_of;
 use super::{BYTES, Item, MALFORMED, Part, Side};
+use crate::text::text_of;
 use acpi_programs::input::entries::Entry;
 use acpi_programs::rattle::Pieces;
 use acpi_programs::rattle::alloc::Global;

@@ -1,11 +1,11 @@
 //! What rules find as the report of a test run, in the XML of JUnit that CI systems read: each rule is a test.
 
-use crate::text::printed;
 use super::Output;
 use super::judged::print_finding;
 use crate::check::rules::{Finding, Rule, Severity, all};
 use crate::page::html::Html;
 use crate::page::html::Piece::{Decimal, Printed, Text};
+use crate::text::printed;
 use acpi_programs::input::entries::Entry;
 use acpi_programs::walk::out::Out;
 

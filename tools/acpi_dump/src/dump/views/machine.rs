@@ -1,11 +1,11 @@
 //! The machine in short. The facts of tables that come as files are those of the valid ones, in a memory where each
 //! has a place.
 
-use crate::text::text_of;
 use super::read::{memory_of, open};
 use super::{Output, strict_status};
 use crate::summary::document::{add_fact_lines, add_machine};
 use crate::summary::machine::{Facts, Value, add_domains, add_facts, add_units};
+use crate::text::text_of;
 use acpi_programs::image::{PlacedTable, write_image};
 use acpi_programs::image_reader::MemoryImage;
 use acpi_programs::input::entries::{Entry, Place, entries_of, entries_of_files, print_name};

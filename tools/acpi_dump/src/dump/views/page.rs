@@ -1,10 +1,10 @@
 //! A page of an input, or of what differs between two.
 
-use crate::text::granted;
 use super::judged::{findings_in, status_of};
 use super::read::{Tables, tables_in};
 use super::{Output, strict_status};
 use crate::page::html::{Given, Html, Source, print_page};
+use crate::text::granted;
 use acpi_programs::cli::storage::Storage;
 use acpi_programs::input::errors::{Log, Stop};
 use acpi_programs::input::extract::save_file;

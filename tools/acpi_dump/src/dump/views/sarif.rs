@@ -2,11 +2,11 @@
 //!
 //! The members of an object come in the order of their names.
 
-use crate::text::printed;
 use super::Output;
 use crate::check::rules::{Finding, Rule, Severity, all};
 use crate::json::Token;
 use crate::summary::document::Document;
+use crate::text::printed;
 use acpi_programs::input::entries::{Entry, Place, own_signature};
 use acpi_programs::rattle::Pieces;
 use acpi_programs::walk::fields::print_text;

@@ -1,10 +1,10 @@
 //! Single values of tables.
 
-use crate::text::printed;
 use super::Output;
 use crate::dump::wanted::{Finder, Wanted};
 use crate::json::Token;
 use crate::summary::document::Document;
+use crate::text::printed;
 use acpi_programs::input::entries::Entry;
 use acpi_programs::input::errors::{Log, Stop, fail};
 use acpi_programs::rattle::alloc::Global;

@@ -1,10 +1,10 @@
 //! The operations of a method, in a fold.
 
-use crate::text::{granted, printed};
 use super::escape::Html;
 use super::sheet::Sheet;
 use crate::compare::compare::code::segments_of;
 use crate::compare::outline::Item;
+use crate::text::{granted, printed};
 use acpi_programs::code::text::CodeText;
 use acpi_programs::code::{Extent, list_code};
 use acpi_programs::rattle::Pieces;

@@ -1,6 +1,5 @@
 //! The fields of a table: a row for each, in folds by the structures that they are in.
 
-use crate::text::printed;
 use super::code::print_code;
 use super::escape::Html;
 use super::escape::Piece::{Bytes, Decimal, Digits, Hex, Id, Name, Offset, Text, Value};
@@ -11,6 +10,7 @@ use super::marks::{Change, Mark};
 use super::sheet::{Sheet, Standing};
 use super::values::{print_change, print_digest, print_reference, print_value, structure_of};
 use crate::compare::outline::{BYTES, Item, MALFORMED, Part};
+use crate::text::printed;
 use acpi_programs::input::entries::header_of;
 use acpi_programs::walk::language::number_at;
 use zacpi::sdt::SdtHeader;

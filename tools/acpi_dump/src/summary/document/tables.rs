@@ -1,10 +1,10 @@
 //! The tables in a document.
 
-use crate::text::granted;
 use super::Document;
 use crate::compare::compare::code::Code;
 use crate::compare::compare::{Difference, ShowDifferences};
 use crate::json::Token;
+use crate::text::granted;
 use acpi_programs::code::{Known, ShowCode, list_table};
 use acpi_programs::input::entries::{Entry, Place, header_of};
 use acpi_programs::rattle::alloc::Global;

@@ -1,7 +1,7 @@
 //! What the domains of an SRAT have, the latencies and bandwidths of an HMAT, and the distances of a SLIT.
 
-use crate::text::granted;
 use super::facts::{Facts, Value};
+use crate::text::granted;
 use acpi_programs::input::entries::{Entry, own_signature};
 use acpi_programs::rattle::alloc::Global;
 use acpi_programs::walk::matrix::{Matrix, matrix_of};

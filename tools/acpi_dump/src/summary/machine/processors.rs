@@ -1,7 +1,7 @@
 //! Processors that have local APICs: a line for those whose numbers follow each other, and which are else alike.
 
-use crate::text::granted;
 use super::facts::{Facts, Value};
+use crate::text::granted;
 use acpi_programs::rattle::alloc::Global;
 use acpi_programs::walk::share::{Share, shares_of};
 use zacpi::platform::{Processor, ProcessorState};

@@ -1,7 +1,7 @@
 //! Units and devices that tables tell of, a line each, by the fields of their structures.
 
-use crate::text::printed;
 use super::facts::{Facts, Value};
+use crate::text::printed;
 use acpi_programs::input::entries::{Entry, own_signature};
 use acpi_programs::rattle::Pieces;
 use acpi_programs::walk::fields::{number_of, print_meaning, size_of};
