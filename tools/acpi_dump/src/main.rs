@@ -25,7 +25,7 @@ fn arguments(rt: &HostRuntime) -> io::Result<Vec<String>> {
 
 /// The status of the program over the process's arguments, files and outputs.
 ///
-/// Fails if a write fails or memory runs out.
+/// Fails if a write fails.
 fn status(rt: &HostRuntime) -> io::Result<u8> {
     let had = arguments(rt);
     let arguments = match &had {

@@ -171,7 +171,7 @@ pub(crate) fn check_ranges(srat: &[u8], findings: &mut Findings) {
 /// ends above 2^64.
 fn range_of(offset: usize, entry: &[u8], domain: u64, findings: &mut Findings) -> Option<Span> {
     let (base, length) = (field(entry, 8, 8), field(entry, 16, 8)); // Base Address, Length
-    let at = offset.saturating_add(16);
+    let at = offset + 16;
     let Some(more) = length.checked_sub(1) else {
         findings.add(&SRAT_EMPTY, at, &[length]);
         return None;
@@ -179,7 +179,7 @@ fn range_of(offset: usize, entry: &[u8], domain: u64, findings: &mut Findings) -
     if base.checked_add(more).is_none() {
         findings.add(&SRAT_PAST_END, at, &[length, base]);
     }
-    Some(Span::of(base, more, offset.saturating_add(8), domain))
+    Some(Span::of(base, more, offset + 8, domain))
 }
 
 /// Adds the domains and the processors that the enabled entries of a SRAT name.
@@ -187,13 +187,13 @@ fn add_entries(srat: &[u8], numbers: &mut Numbers) {
     let revision = field(srat, 8, 1) as u8; // Revision
     let mut rest = skip(srat, 48);
     while let Some((entry, others)) = split_front(&SRAT_GRAMMAR, rest) {
-        let offset = srat.len().saturating_sub(rest.len());
+        let offset = srat.len() - rest.len();
         numbers.add(&PLACES, offset, entry);
         if let Some(entry) = SratEntry::read(revision, entry)
             && entry.is_enabled() != Some(false)
         {
             let (domain, place) = domain_of(&entry);
-            numbers.push(DOMAINS, domain as u64, offset.saturating_add(place));
+            numbers.push(DOMAINS, domain as u64, offset + place);
         }
         rest = others;
     }

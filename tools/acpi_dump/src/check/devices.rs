@@ -85,7 +85,7 @@ pub(crate) fn check_regions(mcfg: &[u8], findings: &mut Findings) {
         let (first, last) = (region.bus_number_start as u64, region.bus_number_end as u64);
         let (base, segment) = (region.base_address, region.pci_segment_group as u64);
         if last < first {
-            findings.add(&MCFG_BUSES, offset.saturating_add(10), &[first, last]);
+            findings.add(&MCFG_BUSES, offset + 10, &[first, last]);
         } else {
             check_base(offset, base, last, findings);
             let (more, owner) = (last - first, segment << 16 | first << 8 | last); // the segment and its buses
@@ -95,11 +95,11 @@ pub(crate) fn check_regions(mcfg: &[u8], findings: &mut Findings) {
             buses.push(bus);
             memory.push(bytes);
         }
-        offset = offset.saturating_add(16);
+        offset += 16;
     }
     for (before, region) in overlaps(&mut buses) {
         let numbers = &[region.first & 0xff, before.offset as u64];
-        findings.add(&MCFG_SHARED_BUS, region.offset.saturating_add(10), numbers);
+        findings.add(&MCFG_SHARED_BUS, region.offset + 10, numbers);
     }
     for (before, region) in overlaps(&mut memory) {
         if !shares_bus(before.owner, region.owner) {
@@ -127,7 +127,7 @@ fn shares_bus(one: u64, other: u64) -> bool {
 /// The address space and the address of the generic address at an offset, unless all its bytes are zeros or it isn't
 /// there.
 pub(crate) fn register_at(bytes: &[u8], offset: usize) -> Option<(u64, u64)> {
-    let register = bytes.get(offset..offset.saturating_add(12))?;
+    let register = bytes.get(offset..)?.get(..12)?;
     if field(register, 0, 8) == 0 && field(register, 8, 4) == 0 {
         return None;
     }

@@ -38,7 +38,7 @@ pub(crate) fn check_facs(machine: &Machine<'_>, entry: &Entry<'_>, findings: &mu
         findings.add(&FACS_LENGTH, 4, &[length]);
     } else if let Some((_, fadt)) = machine.first(Signature::FADT) {
         let revision = field(fadt, 8, 1);
-        let wanted = revision.max(2).min(4) - 2;
+        let wanted = revision.clamp(2, 4) - 2;
         if version != wanted {
             findings.add(&FACS_VERSION, 32, &[version, wanted, revision]);
         }

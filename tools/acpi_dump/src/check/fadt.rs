@@ -203,7 +203,7 @@ fn check_register(fadt: &[u8], offset: usize, findings: &mut Findings) {
     let register = fadt.get(offset..).unwrap_or(&[]);
     let (size, address) = (field(register, 3, 1), field(register, 4, 8));
     if address != 0 && size > 4 {
-        findings.add(&FADT_ACCESS_SIZE, offset.saturating_add(3), &[size]);
+        findings.add(&FADT_ACCESS_SIZE, offset + 3, &[size]);
     }
 }
 

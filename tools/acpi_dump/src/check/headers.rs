@@ -284,7 +284,7 @@ impl Show for Fields<'_> {
         let may_be_one = matches!((self.name, offset), ("SRAT", 36) | ("FACP", 44));
         let is_one = matches!(shown.bytes, [1] | [1, 0, 0, 0]);
         let is_zero = shown.bytes.iter().all(|byte| *byte == 0);
-        if !is_zero && !(is_one && may_be_one) {
+        if !(is_zero || is_one && may_be_one) {
             self.findings.add(&HEADER_RESERVED, offset, &[]);
         }
     }

@@ -60,7 +60,7 @@ pub(crate) fn check_dmar(dmar: &[u8], findings: &mut Findings) {
     let mut segments = [0u64; 1024];
     let mut structures = DmarStructureIter::over(dmar);
     while let Some(structure) = structures.next() {
-        let end = dmar.len().saturating_sub(structures.rest().len());
+        let end = dmar.len() - structures.rest().len();
         let offset = end.saturating_sub(structure.length());
         match structure.fields() {
             Some(DmarFields::Drhd(unit)) => {
@@ -71,7 +71,7 @@ pub(crate) fn check_dmar(dmar: &[u8], findings: &mut Findings) {
                 }
                 if has_come {
                     let id = if is_all { &DRHD_ALL } else { &DRHD_LAST };
-                    findings.add(id, offset.saturating_add(4), &[unit.segment as u64]);
+                    findings.add(id, offset + 4, &[unit.segment as u64]);
                 }
             }
             Some(DmarFields::Rmrr(range)) => check_reserved(offset, range, findings),
@@ -85,9 +85,9 @@ pub(crate) fn check_dmar(dmar: &[u8], findings: &mut Findings) {
 fn check_reserved(offset: usize, range: Rmrr, findings: &mut Findings) {
     let (base, limit) = (range.base, range.limit);
     if limit < base {
-        findings.add(&RMRR_LIMIT, offset.saturating_add(16), &[limit, base]);
+        findings.add(&RMRR_LIMIT, offset + 16, &[limit, base]);
     } else if base & 0xfff != 0 || limit & 0xfff != 0xfff {
-        findings.add(&RMRR_PAGES, offset.saturating_add(8), &[base, limit]);
+        findings.add(&RMRR_PAGES, offset + 8, &[base, limit]);
     }
 }
 
@@ -97,7 +97,7 @@ fn check_scopes(end: usize, structure: DmarStructure<'_>, findings: &mut Finding
     let mut offset = end.saturating_sub(scopes.rest().len());
     while let Some(scope) = scopes.next() {
         if scope.hops().next().is_none() {
-            findings.add(&SCOPE_PATH, offset.saturating_add(1), &[scope.kind() as u64]);
+            findings.add(&SCOPE_PATH, offset + 1, &[scope.kind() as u64]);
         }
         offset = end.saturating_sub(scopes.rest().len());
     }
@@ -113,7 +113,7 @@ pub(crate) fn check_ivrs(ivrs: &[u8], findings: &mut Findings) {
     let mut blocks = IvrsBlockIter::over(ivrs);
     while let Some(block) = blocks.next() {
         let mut entries = block.entries();
-        while let Some(_entry) = entries.next() {}
+        for _entry in entries.by_ref() {}
         let rest = entries.rest();
         let left = blocks.rest().len().saturating_add(rest.len());
         let offset = ivrs.len().saturating_sub(left);
@@ -138,7 +138,7 @@ pub(crate) fn check_iort(iort: &[u8], findings: &mut Findings) {
             {
                 mapped.push(span);
             }
-            at = at.saturating_add(20);
+            at += 20;
         }
         for (before, span) in overlaps(&mut mapped) {
             let numbers = &[span.first, before.offset as u64];
@@ -155,7 +155,7 @@ fn ids_of(offset: usize, node: &[u8], mapping: &[u8], findings: &mut Findings) -
         return None;
     }
     let output = field(mapping, 8, 4); // Output base
-    check_ids(offset.saturating_add(8), output, more, findings);
+    check_ids(offset + 8, output, more, findings);
     if field(node, 0, 1) == 6 {
         return None;
     }

@@ -32,7 +32,7 @@ impl<'a> Machine<'a> {
                 "XSDT" => listed = Some(entry.bytes.len().saturating_sub(36) / 8),
                 "RSDT" => listed = listed.or(Some(entry.bytes.len().saturating_sub(36) / 4)),
                 "RSD " | "DSDT" | "FACS" => {}
-                _ => count = count.saturating_add(1),
+                _ => count += 1,
             }
             if entry.bytes.is_empty() {
                 return false;

@@ -55,7 +55,7 @@ pub(crate) fn check_cycles(pptt: &[u8], findings: &mut Findings) {
             if *walk == start + 1
                 && let Some((_, place, offset)) = nodes.all.get(at)
             {
-                findings.add(&PPTT_CYCLE, offset.saturating_add(8), &[*place]);
+                findings.add(&PPTT_CYCLE, offset + 8, &[*place]);
             }
             if *walk != 0 {
                 break;
@@ -112,7 +112,7 @@ pub(crate) fn check_processors(machine: &Machine<'_>, findings: &mut Findings) {
         let is_processor = field(node, 4, 4) & 0b1010 == 0b1010;
         let unique = field(node, 12, 4);
         if field(node, 0, 1) == 0 && is_processor && !numbers.has(UIDS, unique) {
-            let at = offset.saturating_add(12);
+            let at = offset + 12;
             findings.add(&PPTT_PROCESSOR_NOWHERE, at, &[unique]);
         }
     }

@@ -156,11 +156,11 @@ pub(crate) fn check_madt(madt: &[u8], findings: &mut Findings) {
     let mut numbers = Numbers::new();
     let mut rest = skip(madt, 44);
     while let Some((entry, others)) = split_front(&MADT_GRAMMAR, rest) {
-        let offset = madt.len().saturating_sub(rest.len());
+        let offset = madt.len() - rest.len();
         numbers.add(&KEPT, offset, entry);
         let (id, flags) = (field(entry, 4, 4), field(entry, 8, 4)); // of a Processor Local x2APIC
         if field(entry, 0, 1) == 9 && id < 255 && flags & 1 != 0 {
-            numbers.push(LOW, id, offset.saturating_add(4));
+            numbers.push(LOW, id, offset + 4);
         }
         check_entry(offset, entry, findings);
         rest = others;
@@ -195,7 +195,7 @@ fn check_signal(offset: usize, entry: &[u8], findings: &mut Findings) {
         (_, 2) => "trigger mode 2 is reserved",
         _ => return,
     };
-    findings.add_words(&MADT_INTI_FLAGS, offset.saturating_add(place), words, &[]);
+    findings.add_words(&MADT_INTI_FLAGS, offset + place, words, &[]);
 }
 
 /// Judges which interrupt controllers there are.
@@ -244,7 +244,7 @@ fn check_enabled(madt: &[u8], findings: &mut Findings) {
                     return;
                 }
                 first = first.or(Some(offset.saturating_add(*place)));
-                count = count.saturating_add(1);
+                count += 1;
             }
         }
     }

@@ -32,7 +32,7 @@ impl<'a> Iterator for Pieces<'a> {
         }
         let (piece, rest) = self.rest.split_at(length);
         let offset = self.offset;
-        self.offset = offset.saturating_add(length);
+        self.offset += length;
         self.rest = rest;
         Some((offset, piece))
     }

@@ -90,7 +90,7 @@ fn add_pointers(list: u64, table: &[u8], width: usize, pointers: &mut Numbers) {
         if pointer.len() == width {
             pointers.push(list, field(pointer, 0, width.min(8)), offset);
         }
-        offset = offset.saturating_add(width);
+        offset += width;
     }
 }
 

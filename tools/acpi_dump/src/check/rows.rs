@@ -126,7 +126,7 @@ impl Show for Judged<'_> {
             if row.is_of(group.name, "") {
                 self.numbers.push(list, group.offset, group.offset as usize);
             }
-            list = list.saturating_add(2);
+            list += 2;
         }
     }
 
@@ -140,7 +140,7 @@ impl Show for Judged<'_> {
         for row in rows {
             let number = number_from(shown.bytes, row.place);
             if row.is_of(title, shown.label.name) {
-                self.numbers.push(list.saturating_add(1), number, offset);
+                self.numbers.push(list + 1, number, offset);
             }
             if row.is_about(title, shown.label.name) {
                 let wrong = match row.test {
@@ -157,7 +157,7 @@ impl Show for Judged<'_> {
                     return self.findings.add(row.rule, at, &[number]);
                 }
             }
-            list = list.saturating_add(2);
+            list += 2;
         }
     }
 }
@@ -173,7 +173,7 @@ fn judge_numbers(rows: &[Row], numbers: &Numbers, findings: &mut Findings) {
         let is_wrong = if row.test == "once" {
             before.0 == list && before.1 == number
         } else {
-            list % 2 == 0 && !numbers.has(list.saturating_add(1), number)
+            list % 2 == 0 && !numbers.has(list + 1, number)
         };
         if is_wrong && number_of(row.exempt) != Some(number) {
             findings.add(row.rule, offset, &[number, before.2 as u64]);

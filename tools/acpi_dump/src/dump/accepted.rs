@@ -202,7 +202,7 @@ impl<'w> Accepted<'w> {
             if text.is_empty() || text.starts_with('#') {
                 continue;
             }
-            let number = before.saturating_add(1);
+            let number = before + 1;
             match Line::read(number, text, self.today) {
                 Ok(line) => lines.push(line),
                 Err(why) => {
@@ -229,7 +229,7 @@ impl<'w> Accepted<'w> {
 
     /// The findings that aren't left out. Prints which lines of the list accept nothing.
     ///
-    /// Fails, after printing why, if a file isn't what it should be, or if memory runs out.
+    /// Fails, after printing why, if a file isn't what it should be.
     pub(crate) fn rest_of(
         &self,
         findings: &[Finding],

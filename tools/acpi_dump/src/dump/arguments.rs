@@ -105,8 +105,8 @@ impl Request<'_> {
     ) -> Result<(), Stop> {
         let words = matches.get_strs(option).unwrap_or(&[]);
         for word in words {
-            let Some(signature) = parse_signature(*word) else {
-                return Err(refuse_option(log, option, *word));
+            let Some(signature) = parse_signature(word) else {
+                return Err(refuse_option(log, option, word));
             };
             self.choose(signature, contents);
         }
@@ -134,7 +134,7 @@ impl Request<'_> {
     /// Whether the RSDP is chosen, or a value in it.
     pub(crate) fn names_rsdp(&self) -> bool {
         let mut choices = self.choices.iter();
-        choices.any(|choice| choice.signature.is_some_and(is_rsdp)) || self.wanted.iter().any(|word| is_in_rsdp(*word))
+        choices.any(|choice| choice.signature.is_some_and(is_rsdp)) || self.wanted.iter().any(|word| is_in_rsdp(word))
     }
 
     /// Takes a view, which has to be the only one.
@@ -149,7 +149,7 @@ impl Request<'_> {
     /// Adds the view that the options ask for, of which at most one kind may be there.
     fn add_view(&mut self, matches: &ArgMatches, log: &mut Log) -> Result<(), Stop> {
         if matches.get_flag("fleet") {
-            let why = "fleets are read by the program that cargo builds";
+            let why = "this program is built without fleets";
             return Err(refuse_option(log, "fleet", why));
         }
         let is_text = matches.get_flag("text");
@@ -158,7 +158,7 @@ impl Request<'_> {
             self.view = View::Tables;
         }
         for (option, view) in &VIEWS {
-            if is_there(matches, *option) {
+            if is_there(matches, option) {
                 self.take_view(*view, log)?;
             }
         }
@@ -207,7 +207,7 @@ impl Request<'_> {
         ];
         for (option, is_there, has_view) in &options {
             if *is_there && !*has_view {
-                return Some((*option, view_for(*option)));
+                return Some((*option, view_for(option)));
             }
         }
         None
@@ -278,7 +278,7 @@ fn judging_of(matches: &ArgMatches, log: &mut Log) -> Result<(Option<Severity>, 
 
 /// The request that matches make.
 ///
-/// Fails if memory runs out, or, after printing that, with the first mistake in this order: the words of options but
+/// Fails, after printing that, with the first mistake in this order: the words of options but
 /// those of `--get`, the choices, the views with the words of `--get`, and the way to the root table.
 pub(crate) fn request_of<'m>(matches: &'m ArgMatches, log: &mut Log) -> Result<Request<'m>, Stop> {
     let (least, rule) = judging_of(matches, log)?;

@@ -1,6 +1,6 @@
 //! The contents of chosen tables.
 
-use crate::compare::compare::code::names_in;
+use crate::compare::code::names_in;
 use crate::dump::getters::print_getters;
 use crate::dump::options::{Choice, Contents};
 use crate::dump::paint::Paint;
@@ -68,7 +68,7 @@ pub(crate) fn add_tables(document: &mut Document<'_>, entries: &[Entry<'_>], cho
         for entry in entries {
             if shows(choices, number, entry) {
                 let part = match choice.contents {
-                    Contents::Code if entry.has_aml() => Part::Code(&*known),
+                    Contents::Code if entry.has_aml() => Part::Code(known),
                     Contents::Code | Contents::Fields => Part::Fields,
                     Contents::Bytes => Part::Bytes,
                     Contents::Dumped => Part::Nothing,

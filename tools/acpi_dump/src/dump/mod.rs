@@ -1,7 +1,5 @@
 //! The ACPI tables of an input: one line a table, the fields or the bytes of some, or the machine in short.
-//!
-//! Every function returns for every input, without fault; `--extract` saves the tables that it takes, as files of its
-//! folder, and `--html` the page that it printed, and nothing else. What is printed is tested, and not proved.
+//! `--extract` saves the tables that it takes, as files of its folder, `--html` the page, and nothing else is saved.
 
 mod accepted;
 mod arguments;

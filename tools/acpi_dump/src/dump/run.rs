@@ -116,7 +116,7 @@ fn print_inputs<S: Sources, T: Storage>(
     }
     match (request.folder, request.page) {
         (Some(folder), _) => save_input(output, folder, input, sources, storage, out, log),
-        (None, Some(file)) => save_page(output, file, input, None, sources, storage, out, log),
+        (None, Some(file)) => save_page(output, file, (input, None), sources, storage, out, log),
         (None, None) => print_input(output, input, out, log),
     }
 }
@@ -137,7 +137,7 @@ fn print_two<S: Sources, T: Storage>(
     let old = &gather(Global, &[*first], reading, sources, log)?;
     let new = &gather(Global, &[*second], reading, sources, log)?;
     match output.request.page {
-        Some(file) => save_page(output, file, old, Some(new), sources, storage, out, log),
+        Some(file) => save_page(output, file, (old, Some(new)), sources, storage, out, log),
         None => print_compared(output, old, new, out, log),
     }
 }

@@ -55,7 +55,7 @@ impl<'o> Output<'o> {
     /// The name of the input, or of the first of several.
     fn name(self) -> &'o str {
         match self.request.inputs.get(self.number) {
-            Some(name) => *name,
+            Some(name) => name,
             None => "/sys/firmware/acpi/tables",
         }
     }
@@ -73,7 +73,7 @@ impl<'o> Output<'o> {
 
 /// Prints what is asked for of an input.
 ///
-/// Fails, after printing why, if that isn't there, or if memory runs out.
+/// Fails, after printing why, if that isn't there.
 pub(crate) fn print_input(output: Output<'_>, input: &Input, out: &mut Out, log: &mut Log) -> Result<u8, Stop> {
     match output.request.view {
         View::Candidates => print_found(output, input, out, log),
@@ -101,7 +101,7 @@ pub(crate) fn has_no_start(output: Output<'_>, input: &Input, log: &mut Log) -> 
 
 /// Saves the tables of an input as files of a folder.
 ///
-/// Fails, after printing why, if there are none, or if memory runs out.
+/// Fails, after printing why, if there are none.
 pub(crate) fn save_input<S: Sources, T: Storage>(
     output: Output<'_>,
     folder: &str,

@@ -87,8 +87,8 @@ fn is_path(name: &str, path: &[u8]) -> bool {
 /// Fails, after printing that, with the first that names none.
 pub(crate) fn check_wanted(words: &[&str], log: &mut Log) -> Result<(), Stop> {
     for word in words {
-        if Wanted::read(*word).is_none() {
-            return Err(refuse_option(log, "get", *word));
+        if Wanted::read(word).is_none() {
+            return Err(refuse_option(log, "get", word));
         }
     }
     Ok(())
@@ -131,9 +131,9 @@ impl<S: Show> Show for Finder<'_, S> {
 
     fn begin(&mut self, group: &Group) {
         if self.entered == self.depth && self.wanted.is_in(self.depth, group) {
-            self.entered = self.entered.saturating_add(1);
+            self.entered += 1;
         }
-        self.depth = self.depth.saturating_add(1);
+        self.depth += 1;
     }
 
     fn end(&mut self) {

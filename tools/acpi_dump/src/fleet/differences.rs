@@ -2,7 +2,7 @@
 
 use super::machines::Machine;
 use super::sums::Sums;
-use crate::compare::compare::{Difference, ShowDifferences, compare, same_in};
+use crate::compare::{Difference, ShowDifferences, compare, same_in};
 use acpi_programs::input::entries::Entry;
 use acpi_programs::rattle::alloc::Global;
 use acpi_programs::walk::out::Out;

@@ -147,10 +147,10 @@ impl<'d> Document<'d> {
             }
             let (outer, inner) = cut_at(name, '.');
             if inner.is_empty() {
-                self.text(name, *text);
+                self.text(name, text);
             } else {
                 self.begin_object(outer);
-                self.text(inner, *text);
+                self.text(inner, text);
                 self.token(Token::EndObject);
             }
         }
@@ -209,7 +209,7 @@ impl<'d> Document<'d> {
     fn inputs(&mut self) {
         self.begin_list("inputs");
         for name in self.inputs {
-            self.token(Token::String(*name));
+            self.token(Token::String(name));
         }
         self.token(Token::EndArray);
     }

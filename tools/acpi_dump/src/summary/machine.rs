@@ -112,7 +112,7 @@ fn add_regions<H: AcpiHandler>(tables: &AcpiTables<'_, H>, facts: &mut Facts) {
             for region in regions.iter() {
                 let (first, last) = region.bus_range.into_inner();
                 let (segment, address) = (region.segment_group, region.physical_address);
-                let numbers = [segment as u64, first as u64, last as u64, address as u64];
+                let numbers = [segment as u64, first as u64, last as u64, address];
                 let words = "PCI segment {segment}\tbuses {first_bus} to {last_bus}, from {#address} on";
                 facts.begin("pci_segments[]", words, &numbers);
             }
@@ -133,7 +133,7 @@ fn add_ranges<H: AcpiHandler>(tables: &AcpiTables<'_, H>, facts: &mut Facts) {
 /// Adds how many processors there are, and each of them, the boot processor first.
 fn add_processors(facts: &mut Facts, boot: &Processor, others: &[Processor], srat: &[u8]) {
     let disabled = others.iter().filter(|it| it.state == ProcessorState::Disabled).count();
-    let numbers = [others.len().saturating_add(1) as u64, disabled as u64];
+    let numbers = [others.len() as u64 + 1, disabled as u64];
     let words = "processors\t{total}, {disabled} of them disabled";
     facts.begin("processor_counts", words, &numbers);
     add_rows(facts, boot, others, srat);
@@ -218,7 +218,7 @@ fn add_hpet(facts: &mut Facts, info: &HpetInfo) {
     let is_wide = info.main_counter_is_64bits();
     let numbers = [
         info.hpet_number as u64,
-        info.base_address as u64,
+        info.base_address,
         if is_wide { 64 } else { 32 },
         info.num_comparators() as u64,
         info.clock_tick_unit as u64,

@@ -38,7 +38,7 @@ fn add_spans(spans: &mut Vec<Span>, space: u64, names: &Names<'_>, it: &Named<'_
             first = first.saturating_add(segment.saturating_mul(256));
         }
         if of == space && count > 0 {
-            let span = Span::of(first, count - 1, at.saturating_add(offset), owner as u64);
+            let span = Span::of(first, count - 1, at + offset, owner as u64);
             spans.push(span);
         }
     }
@@ -88,7 +88,7 @@ pub(super) fn check_regions(machine: &Machine<'_>, names: &Names<'_>, findings: 
         if start <= end && !is_within(&wholes, start, end) {
             findings.add(&AML_MCFG_RESERVED, offset, &[start, end]);
         }
-        offset = offset.saturating_add(16);
+        offset += 16;
     }
 }
 

@@ -155,7 +155,7 @@ pub(super) fn check_processors(machine: &Machine<'_>, names: &Names<'_>, finding
     for (list, unique, offset) in numbers.all.iter() {
         if *list == ENABLED && !numbers.has(DEFINED, *unique) {
             first = first.or(Some((*unique, *offset)));
-            count = count.saturating_add(1);
+            count += 1;
         }
     }
     if let Some((unique, offset)) = first {

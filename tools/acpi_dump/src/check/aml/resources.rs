@@ -58,19 +58,19 @@ pub(super) fn check_template(names: &Names<'_>, it: &Named<'_>, findings: &mut F
     let mut end = 0usize;
     for (offset, descriptor) in Descriptors::of(bytes) {
         end = offset.saturating_add(descriptor.len());
-        let place = at.saturating_add(offset);
+        let place = at + offset;
         check_descriptor(place, descriptor, findings);
         if tag_of(descriptor.first().copied().unwrap_or(0)) == END {
             let sum = byte_sum(bytes.get(..end).unwrap_or(&[]));
             let checksum = descriptor.get(1).copied().unwrap_or(0);
             if checksum != 0 && sum != 0 {
                 let numbers = [checksum as u64, checksum.wrapping_sub(sum) as u64];
-                findings.add(&AML_RESOURCE_SUM, place.saturating_add(1), &numbers);
+                findings.add(&AML_RESOURCE_SUM, place + 1, &numbers);
             }
             return;
         }
     }
-    let end = at.saturating_add(end);
+    let end = at + end;
     findings.add(&AML_RESOURCE_END, end, &[end as u64]);
 }
 

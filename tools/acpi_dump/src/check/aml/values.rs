@@ -51,10 +51,11 @@ fn check_id(at: usize, data: &[u8], is_hid: bool, findings: &mut Findings) {
         if number >> 32 != 0 || !is_eisa_id(&[0x0C, a, b, c, d]) {
             findings.add(&AML_EISA_ID, at, &[number]);
         }
-    } else if let Some(text) = text_in(data) {
-        if !is_text_id(text) && (is_hid || text.len() == 7 || text.len() == 8) {
-            findings.add(&AML_TEXT_ID, at, &[]);
-        }
+    } else if let Some(text) = text_in(data)
+        && !is_text_id(text)
+        && (is_hid || text.len() == 7 || text.len() == 8)
+    {
+        findings.add(&AML_TEXT_ID, at, &[]);
     }
 }
 

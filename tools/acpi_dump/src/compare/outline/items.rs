@@ -113,7 +113,7 @@ impl Items<'_> {
     fn place_of(&self, name: &str) -> u64 {
         for part in self.parts.get(self.open..).unwrap_or(&[]).iter().rev() {
             if part.parent == self.open && part.name == name {
-                return part.place.saturating_add(1);
+                return part.place + 1;
             }
         }
         0
@@ -165,7 +165,7 @@ impl Show for Items<'_> {
             print_hex(line, &mut self.values);
             let places = (start, self.values.length());
             self.add(offset, line.len() as u64, BYTES, places);
-            offset = offset.saturating_add(16);
+            offset += 16;
         }
     }
 

@@ -53,7 +53,7 @@ pub(super) fn root_words<'w>(words: &'w [&'w str]) -> Option<(&'w str, &'w [&'w 
     let [form, ..] = rest else {
         return None;
     };
-    if is_form(*form) {
+    if is_form(form) {
         return Some((*form, rest));
     }
     None

@@ -2,14 +2,14 @@
 
 use super::read::tables_in;
 use super::{Output, strict_status};
-use crate::compare::compare::{DifferenceLines, compare};
+use crate::compare::{DifferenceLines, compare};
 use acpi_programs::input::errors::{Log, Stop};
 use acpi_programs::input::gather::Input;
 use acpi_programs::walk::out::Out;
 
 /// Prints what differs between two inputs.
 ///
-/// Fails, after printing why, if one has no tables, or if memory runs out.
+/// Fails, after printing why, if one has no tables.
 pub(crate) fn print_compared(
     output: Output<'_>,
     first: &Input,

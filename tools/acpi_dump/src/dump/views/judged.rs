@@ -81,7 +81,7 @@ fn add_findings(findings: &[Finding], entries: &[Entry<'_>], least: Severity, do
 
 /// What rules find in tables, but for what is left out of it, and how many findings are.
 ///
-/// Fails, after printing why, if what is to be left out can't be read, or if memory runs out.
+/// Fails, after printing why, if what is to be left out can't be read.
 pub(super) fn findings_in(output: Output<'_>, tables: &Tables<'_>, log: &mut Log) -> Result<(Vec<Finding>, u64), Stop> {
     let findings = findings_of(&tables.machine());
     let rest = output.accepted.rest_of(&findings, &tables.entries, log)?;
@@ -100,7 +100,7 @@ fn put_in_order(findings: &mut [Finding], order: Order) {
 
 /// Prints what rules find in the tables of an input. Returns the status: 4 if something is bad.
 ///
-/// Fails, after printing why, if there are no tables, or if memory runs out.
+/// Fails, after printing why, if there are no tables.
 pub(super) fn print_judged(output: Output<'_>, input: &Input, out: &mut Out, log: &mut Log) -> Result<u8, Stop> {
     let tables = &tables_in(output, input, log)?;
     let (mut findings, left_out) = findings_in(output, tables, log)?;

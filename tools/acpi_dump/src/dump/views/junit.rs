@@ -3,8 +3,8 @@
 use super::Output;
 use super::judged::print_finding;
 use crate::check::rules::{Finding, Rule, Severity, all};
-use crate::page::html::Html;
-use crate::page::html::Piece::{Decimal, Printed, Text};
+use crate::page::Html;
+use crate::page::Piece::{Decimal, Printed, Text};
 use crate::text::printed;
 use acpi_programs::input::entries::Entry;
 use acpi_programs::walk::out::Out;

@@ -3,7 +3,7 @@
 use super::judged::{findings_in, status_of};
 use super::read::{Tables, tables_in};
 use super::{Output, strict_status};
-use crate::page::html::{Given, Html, Source, print_page};
+use crate::page::{Given, Html, Source, print_page};
 use crate::text::granted;
 use acpi_programs::cli::storage::Storage;
 use acpi_programs::input::errors::{Log, Stop};
@@ -30,7 +30,7 @@ fn print_judged_page(
 
 /// Prints the page of an input, or of what differs between two. Returns the status.
 ///
-/// Fails, after printing why, if one has no tables, or if memory runs out.
+/// Fails, after printing why, if one has no tables.
 fn print_any_page(
     output: Output<'_>,
     input: &Input,
@@ -69,12 +69,11 @@ fn save_text<S: Sources, T: Storage>(
 /// Saves the page of an input as a file, or that of what differs between two, the second one beside it. The file `-` is
 /// standard output.
 ///
-/// Fails, after printing why, if one has no tables, or if memory runs out.
+/// Fails, after printing why, if one has no tables.
 pub(crate) fn save_page<S: Sources, T: Storage>(
     output: Output<'_>,
     file: &str,
-    input: &Input,
-    second: Option<&Input>,
+    (input, second): (&Input, Option<&Input>),
     sources: &mut S,
     storage: &mut T,
     out: &mut Out,

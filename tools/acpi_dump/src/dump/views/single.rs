@@ -81,11 +81,11 @@ fn tell_missing(output: Output<'_>, word: &str, log: &mut Log) {
 /// Prints the values of these words, each on a line.
 fn print_lines(output: Output<'_>, words: &[&str], entries: &[Entry<'_>], out: &mut Out, log: &mut Log) {
     for word in words {
-        let Some(wanted) = Wanted::read(*word) else {
+        let Some(wanted) = Wanted::read(word) else {
             continue;
         };
         if !show_value(entries, wanted, &mut Raw { out: &mut *out }) {
-            tell_missing(output, *word, log);
+            tell_missing(output, word, log);
         }
     }
 }
@@ -93,16 +93,16 @@ fn print_lines(output: Output<'_>, words: &[&str], entries: &[Entry<'_>], out: &
 /// Adds the values of these words to a document, each with its word.
 fn add_values(output: Output<'_>, words: &[&str], entries: &[Entry<'_>], document: &mut Document<'_>, log: &mut Log) {
     for word in words {
-        let Some(wanted) = Wanted::read(*word) else {
+        let Some(wanted) = Wanted::read(word) else {
             continue;
         };
         document.token(Token::BeginObject);
         document.token(Token::Key("found"));
         if !show_value(entries, wanted, &mut *document) {
             document.token(Token::Null);
-            tell_missing(output, *word, log);
+            tell_missing(output, word, log);
         }
-        document.text("get", *word);
+        document.text("get", word);
         document.token(Token::EndObject);
     }
 }

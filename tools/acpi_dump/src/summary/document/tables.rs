@@ -1,8 +1,8 @@
 //! The tables in a document.
 
 use super::Document;
-use crate::compare::compare::code::Code;
-use crate::compare::compare::{Difference, ShowDifferences};
+use crate::compare::code::Code;
+use crate::compare::{Difference, ShowDifferences};
 use crate::json::Token;
 use crate::text::granted;
 use acpi_programs::code::{Known, ShowCode, list_table};
@@ -56,9 +56,9 @@ fn add_header(document: &mut Document<'_>, header: &[u8], fields: &[(&str, usize
             return;
         };
         if *is_text {
-            document.letters(*name, bytes);
+            document.letters(name, bytes);
         } else {
-            document.number(*name, number_of(bytes));
+            document.number(name, number_of(bytes));
         }
     }
 }

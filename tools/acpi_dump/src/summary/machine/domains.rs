@@ -121,7 +121,7 @@ pub(super) fn add_distances(facts: &mut Facts, slit: &[u8]) {
         if distances.distance(from, count.saturating_sub(1)).is_none() {
             return;
         }
-        facts.begin("distances[]", "distances from {from}\t", &[from as u64]);
+        facts.begin("distances[]", "distances from {from}\t", &[from]);
         let start = facts.lines.length();
         for to in 0..count {
             let distance = distances.distance(from, to).unwrap_or(0);

@@ -140,7 +140,7 @@ impl Show for Units<'_> {
         if self.depth == 0 {
             self.start(group.kind);
         }
-        self.depth = self.depth.saturating_add(1);
+        self.depth += 1;
     }
 
     fn end(&mut self) {

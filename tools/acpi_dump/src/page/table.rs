@@ -58,7 +58,7 @@ fn print_beginning(sheet: &Sheet<'_>, out: &mut Html) {
     );
     let mut count = 0usize;
     for mark in sheet.marks.fields.iter() {
-        count = count.saturating_add(mark.findings.1.saturating_sub(mark.findings.0));
+        count += mark.findings.1.saturating_sub(mark.findings.0);
     }
     if count > 0 {
         let words = " <span class=\"warn\">findings: %</span>";

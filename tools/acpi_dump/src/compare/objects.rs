@@ -42,7 +42,7 @@ struct Compared<'c> {
 impl<'a> Changes<'a> {
     /// The number of the next difference.
     fn next(&self) -> usize {
-        self.list.len().saturating_add(1)
+        self.list.len() + 1
     }
 
     /// Adds a difference of an object, of which the first one has a number.
@@ -148,7 +148,7 @@ impl<'a> Changes<'a> {
         let (whole, head) = (inner(one), head_of(one));
         let is_package = whole.len() < one.len() && place.is_none();
         let (mut old, mut new, mut index) = (whole, inner(other), 0usize);
-        for _ in 0..old.len().saturating_add(new.len()) {
+        for _ in 0..old.len() + new.len() {
             if old.is_empty() && new.is_empty() {
                 return;
             }
@@ -156,7 +156,7 @@ impl<'a> Changes<'a> {
             let (is_old, is_new) = step_of(was_piece, piece);
             if was_piece.0 != piece.0 {
                 // What comes before this piece, without the comma.
-                let before = whole.len().saturating_sub(old.len().saturating_add(2));
+                let before = whole.len().saturating_sub(old.len() + 2);
                 let name = whole.get(..before.min(head.len())).unwrap_or("");
                 let pieces = (is_old.then_some(was_piece.0), is_new.then_some(piece.0));
                 if is_package {
@@ -167,7 +167,7 @@ impl<'a> Changes<'a> {
             }
             if is_old {
                 old = was_piece.1;
-                index = index.saturating_add(1);
+                index += 1;
             }
             if is_new {
                 new = piece.1;

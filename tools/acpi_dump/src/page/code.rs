@@ -2,7 +2,7 @@
 
 use super::escape::Html;
 use super::sheet::Sheet;
-use crate::compare::compare::code::segments_of;
+use crate::compare::code::segments_of;
 use crate::compare::outline::Item;
 use crate::text::{granted, printed};
 use acpi_programs::code::text::CodeText;

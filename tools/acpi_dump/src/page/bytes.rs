@@ -65,7 +65,7 @@ pub(super) fn print_bytes(bytes: &[u8], sheet: Option<&Sheet<'_>>, out: &mut Htm
             out.digits(u64::from(*byte), 2);
             letters.escaped(&[*byte]);
             before = run;
-            offset = offset.saturating_add(1);
+            offset += 1;
         }
         print_border(before, None, "", out);
         print_border(before, None, "", &mut letters);

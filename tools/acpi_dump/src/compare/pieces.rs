@@ -15,11 +15,11 @@ pub(super) fn cut_piece(text: &str, mark: u8) -> (&str, &str) {
         } else if is_quoted {
             is_escaped = letter == b'\\';
         } else if matches!(letter, b'{' | b'(') {
-            depth = depth.saturating_add(1);
+            depth += 1;
         } else if matches!(letter, b'}' | b')') {
             depth = depth.saturating_sub(1);
         } else if letter == mark && depth == 0 {
-            let rest = text.get(place.saturating_add(2)..);
+            let rest = text.get(place + 2..);
             return (text.get(..place).unwrap_or(text), rest.unwrap_or(""));
         }
     }
@@ -27,7 +27,7 @@ pub(super) fn cut_piece(text: &str, mark: u8) -> (&str, &str) {
 }
 
 /// The elements of a value.
-pub(super) fn elements_of<'a>(value: &'a str) -> Vec<&'a str> {
+pub(super) fn elements_of(value: &str) -> Vec<&str> {
     let mut elements = Vec::new();
     let mut rest = value.trim_ascii();
     for _ in 0..rest.len() {
@@ -61,7 +61,7 @@ pub(super) fn head_of(element: &str) -> &str {
         return "";
     }
     let (second, _) = cut_piece(rest, b',');
-    let end = first.len().saturating_add(second.len()).saturating_add(2);
+    let end = first.len() + second.len() + 2;
     whole.get(..end).unwrap_or(whole)
 }
 

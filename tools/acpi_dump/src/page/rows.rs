@@ -150,7 +150,7 @@ impl Rows<'_, '_, '_> {
         for place in number..sheet.side.parts.len() {
             match sheet.side.parts.get(place) {
                 Some(other) if other.parent == part.parent && other.name == part.name && !other.is_row() => {
-                    count = count.saturating_add(1);
+                    count += 1;
                     last = place;
                     end = other.offset.saturating_add(other.length);
                     has_changes |= sheet.fold(place).has_changes;
@@ -251,7 +251,7 @@ impl Rows<'_, '_, '_> {
         for number in row..sheet.side.items.len() {
             match sheet.side.items.get(number) {
                 Some(item) if sheet.mark(number).row == row => {
-                    length = length.saturating_add(item.length);
+                    length += item.length;
                 }
                 _ => break,
             }

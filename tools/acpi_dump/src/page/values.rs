@@ -96,7 +96,7 @@ pub(super) fn print_digest(side: Side<'_>, number: usize, part: &Part, out: &mut
             let name = if part.own.is_some() { "" } else { item.name };
             let pieces = [word_if(count > 0, ", "), Text(name), value];
             out.fill("$$ $", &pieces);
-            count = count.saturating_add(1);
+            count += 1;
         }
     }
 }

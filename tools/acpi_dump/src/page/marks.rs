@@ -1,7 +1,7 @@
 //! What a page marks in a table: findings, and what differs from the first of two inputs.
 
 use crate::check::rules::Finding;
-use crate::compare::compare::Difference;
+use crate::compare::Difference;
 use crate::compare::outline::{BYTES, Item, Side};
 
 /// How a field differs from the first of two inputs.

@@ -37,14 +37,14 @@ impl Tile {
         let width = WIDTH / self.columns.max(1);
         if self.x > WIDTH.saturating_sub(width) {
             self.x = 0;
-            self.y = self.y.saturating_add(HEIGHT);
+            self.y += HEIGHT;
         }
         if let Some((sheet, offset)) = target {
             self.add_rect(sheet.link(offset), class, marks, width);
         }
         self.add_text(width);
         self.boxes.markup(if target.is_some() { "</a>\n" } else { "\n" });
-        self.x = self.x.saturating_add(width);
+        self.x += width;
         self.text.clear();
         self.title.clear()
     }
@@ -76,12 +76,7 @@ impl Tile {
             _ => ("s c", 7, middle),
         };
         if (self.text.as_str().len() as u64).saturating_mul(letter) <= width {
-            let place = [
-                Text(class),
-                Decimal(self.x.saturating_add(start)),
-                Decimal(self.y.saturating_add(14)),
-                Printed(&self.text),
-            ];
+            let place = [Text(class), Decimal(self.x + start), Decimal(self.y + 14), Printed(&self.text)];
             let text = "<text class=\"$\" x=\"$\" y=\"$\">$</text>";
             self.boxes.fill(text, &place)
         }
@@ -89,7 +84,7 @@ impl Tile {
 
     /// Prints the tile after its title.
     pub(super) fn print(self, out: &mut Html) {
-        let height = Decimal(self.y.saturating_add(HEIGHT));
+        let height = Decimal(self.y + HEIGHT);
         out.fill(
             "</figcaption><svg viewBox=\"0 0 $ $\" role=\"group\">\n$</svg></div></figure>\n",
             &[Decimal(WIDTH), height, Printed(&self.boxes)],

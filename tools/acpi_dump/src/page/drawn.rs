@@ -91,7 +91,7 @@ fn print_fields(sheet: &Sheet<'_>, structure: usize, name: &'static str, out: &m
         if item.part == structure && item.name == wanted && !is_header {
             out.markup(if count > 0 { "/" } else { "" });
             print_field(sheet, item, name, out);
-            count = count.saturating_add(1);
+            count += 1;
         }
     }
 }

@@ -58,17 +58,17 @@ impl Pairs {
     /// The keys are sorted.
     pub(super) fn add(&mut self, old: &[Key<'_>], new: &[Key<'_>], texts: usize) {
         let (mut a, mut b) = (0usize, 0usize);
-        for _ in 0..old.len().saturating_add(new.len()) {
+        for _ in 0..old.len() + new.len() {
             let (Some(one), Some(other)) = (old.get(a), new.get(b)) else {
                 return;
             };
             match self.order(one, other, texts) {
-                Ordering::Less => a = a.saturating_add(1),
-                Ordering::Greater => b = b.saturating_add(1),
+                Ordering::Less => a += 1,
+                Ordering::Greater => b += 1,
                 Ordering::Equal => {
                     self.take(one.4, other.4);
-                    a = a.saturating_add(1);
-                    b = b.saturating_add(1);
+                    a += 1;
+                    b += 1;
                 }
             }
         }
@@ -99,7 +99,7 @@ impl Pairs {
         if let Some(place) = self.firsts.get_mut(other) {
             *place = Some(number);
         }
-        self.count = self.count.saturating_add(1);
+        self.count += 1;
     }
 }
 
