@@ -31,6 +31,20 @@ structs = {name: [field for part in body.split(';') if part.strip() for field in
            for name, body in re.findall(r'\nstruct (zacpi_\w+) \{(.*?)\n\};', text, flags=re.S)}
 calls = {name: [field for part in arguments.split(',') for field in split(part)]
          for name, arguments in re.findall(r'\nZACPI_STATUS (zacpi_\w+)\(([^;]*)\);', text)}
+
+
+def returned():
+    """The structs that calls write, and those in them."""
+    found = {kind for fields in calls.values() for kind, _ in fields if kind.endswith('*') and 'const' not in kind}
+    found = {kind.rstrip('* ').removeprefix('struct ') for kind in found} & set(structs)
+    while True:
+        more = found | {kind.rstrip('* ').removeprefix('struct ') for name in found for kind, _ in structs[name]
+                        if not kind.startswith('const ')} & set(structs)
+        if more == found:
+            return found
+        found = more
+
+
 SIZES = {'uint8_t': 1, 'uint16_t': 2, 'uint32_t': 4, 'zacpi_status': 4, 'zacpi_u64': 8, 'zacpi_size': 8}
 
 

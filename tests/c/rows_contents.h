@@ -4,11 +4,11 @@
 #define ROWS_CONTENTS_H
 
 static const struct zacpi_table_ids makers = {{'G', 'U', 'E', 'S', 'T', ' '}, {'M', 'A', 'C', 'H', 'I', 'N', 'E', ' '},
-                                              0x01020304, {'Z', 'U', 'G', 'Z'}, 0x05060708};
+                                              {0}, 0x01020304, {'Z', 'U', 'G', 'Z'}, 0x05060708};
 /* The names are made of bytes that aren't UTF-8, one after the other. */
-static const struct zacpi_table_ids no_oem = {{'G', 'U', 'E', 'S', 'T', 0xff}, {'M'}, 0, {'Z'}, 0};
-static const struct zacpi_table_ids no_table_id = {{'G'}, {0x80}, 0, {'Z'}, 0};
-static const struct zacpi_table_ids no_creator = {{'G'}, {'M'}, 0, {'Z', 0xc3, 'Z', 'Z'}, 0};
+static const struct zacpi_table_ids no_oem = {{'G', 'U', 'E', 'S', 'T', 0xff}, {'M'}, {0}, 0, {'Z'}, 0};
+static const struct zacpi_table_ids no_table_id = {{'G'}, {0x80}, {0}, 0, {'Z'}, 0};
+static const struct zacpi_table_ids no_creator = {{'G'}, {'M'}, {0}, 0, {'Z', 0xc3, 'Z', 'Z'}, 0};
 static const struct zacpi_table_ids *ids = &makers;
 
 /* Signature, Length, Revision, Checksum; OEMID, OEM Table ID; OEM Revision, Creator ID, Creator Revision. */

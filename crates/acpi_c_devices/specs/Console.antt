@@ -28,6 +28,7 @@ console_record t interface = record {
   pci_bus = unwrap_or (bus_of t) 0;
   pci_device = unwrap_or (device_of t) 0;
   pci_function = unwrap_or (function_of t) 0;
+  reserved = 0;
 }
 
 -- the console of the first valid SPCR

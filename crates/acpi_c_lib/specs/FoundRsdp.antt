@@ -18,6 +18,7 @@ rsdp_record address rsdp =
       length = rsdp_length rsdp;
       revision = rsdp.revision;
       oem_id = rsdp.oem_id;
+      reserved = 0;
     }
 
 -- that of the tables that a caller names

@@ -48,11 +48,13 @@ fn member_at<H: AcpiHandler>(handler: &H, accept: u32, address: u64) -> Member
             table: entry(&head),
             status,
             has_header: 1,
+            reserved: [0; 3],
         },
         Err(_) => Member {
             table: unmapped(address),
             status,
             has_header: 0,
+            reserved: [0; 3],
         },
     }
 }
@@ -81,8 +83,10 @@ fn unmapped(address: u64) -> Table
         revision: 0,
         oem_id: [0; 6],
         oem_table_id: [0; 8],
+        reserved_1: 0,
         oem_revision: 0,
         creator_id: [0; 4],
         creator_revision: 0,
+        reserved_2: [0; 4],
     }
 }

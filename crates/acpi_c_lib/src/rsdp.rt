@@ -30,5 +30,6 @@ fn rsdp_record(address: u64, rsdp: &Rsdp) -> records::Rsdp
         length: rsdp.length().unwrap_or(20),
         revision: rsdp.revision(),
         oem_id: rsdp.oem_id,
+        reserved: 0,
     }
 }

@@ -159,7 +159,9 @@ pub fn root(source: &Source<'_>) -> Result<Root, Refusal> {
         length: tables.root_length(),
         revision: tables.revision(),
         pointer_width: tables.root_kind().width() as u8,
+        reserved_1: [0; 2],
         rsdp_address,
         rsdp_length,
+        reserved_2: [0; 4],
     })
 }

@@ -59,10 +59,14 @@ pub struct Root {
     pub revision: u8,
     /// Pointer width: 4 for an RSDT, 8 for an XSDT.
     pub pointer_width: u8,
+    /// Reserved 1: 0.
+    pub reserved_1: [u8; 2],
     /// RSDP address: 0 if opened at a root table, and so is the length.
     pub rsdp_address: u64,
     /// Length; at revision 0, which lacks it, 20, though 36 bytes have to be mapped there too.
     pub rsdp_length: u32,
+    /// Reserved 2: 0.
+    pub reserved_2: [u8; 4],
 }
 
 /// `struct zacpi_rsdp`.
@@ -81,6 +85,8 @@ pub struct Rsdp {
     pub revision: u8,
     /// OEMID.
     pub oem_id: [u8; 6],
+    /// Reserved: 0.
+    pub reserved: u8,
 }
 
 /// `struct zacpi_table`.
@@ -99,12 +105,16 @@ pub struct Table {
     pub oem_id: [u8; 6],
     /// OEM Table ID.
     pub oem_table_id: [u8; 8],
+    /// Reserved 1: 0.
+    pub reserved_1: u8,
     /// OEM Revision.
     pub oem_revision: u32,
     /// Creator ID: of the program that wrote the table.
     pub creator_id: [u8; 4],
     /// Creator Revision: of the program that wrote the table.
     pub creator_revision: u32,
+    /// Reserved 2: 0.
+    pub reserved_2: [u8; 4],
 }
 
 /// `struct zacpi_member`.
@@ -117,6 +127,8 @@ pub struct Member {
     pub status: u32,
     /// Has header: 0: the 36 bytes of a header aren't mapped there.
     pub has_header: u8,
+    /// Reserved: 0.
+    pub reserved: [u8; 3],
 }
 
 /// `struct zacpi_fault`.
@@ -130,6 +142,8 @@ pub struct Fault {
     pub status: u32,
     /// Accepted: 1: it isn't skipped, thanks to `accept` of the source.
     pub accepted: u8,
+    /// Reserved: 0.
+    pub reserved: [u8; 3],
 }
 
 /// `struct zacpi_walk`.
@@ -170,6 +184,8 @@ pub struct AmlTable {
     pub length: u32,
     /// Revision: of a DSDT: below 2 integers have 32 bits, else 64.
     pub revision: u8,
+    /// Reserved: 0.
+    pub reserved: [u8; 3],
     /// The physical address of the table.
     pub table_address: u64,
 }
@@ -192,4 +208,6 @@ pub struct Facs {
     pub flags: u32,
     /// Version.
     pub version: u8,
+    /// Reserved: 0.
+    pub reserved: [u8; 7],
 }

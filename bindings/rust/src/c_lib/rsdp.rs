@@ -26,5 +26,6 @@ fn rsdp_record<H: AcpiHandler>(rsdp: &PhysicalMapping<'_, H, Rsdp>) -> records::
         length: rsdp.length().unwrap_or(20),
         revision: rsdp.revision(),
         oem_id: filled(rsdp.bytes(), 9), // OEMID
+        reserved: 0,
     }
 }

@@ -29,5 +29,6 @@ pub(crate) fn console_record(t: &Spcr, interface: u8) -> Console
         pci_bus: t.pci_bus_number().unwrap_or(0),
         pci_device: t.pci_device_number().unwrap_or(0),
         pci_function: t.pci_function_number().unwrap_or(0),
+        reserved: 0,
     }
 }

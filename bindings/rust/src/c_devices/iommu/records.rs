@@ -12,6 +12,8 @@ pub struct DmarFlags {
     pub address_bits: u16,
     /// Flags: of `enum zacpi_dmar_flag`.
     pub flags: u8,
+    /// Reserved: 0.
+    pub reserved: u8,
 }
 
 /// `struct zacpi_dmar_unit`.
@@ -30,6 +32,8 @@ pub struct DmarUnit {
     pub flags: u8,
     /// The size, as the table has it.
     pub size: u8,
+    /// Reserved: 0.
+    pub reserved: [u8; 3],
 }
 
 /// `struct zacpi_dmar_scope`.
@@ -48,6 +52,8 @@ pub struct DmarScope {
     pub bus: u8,
     /// Path: the first 16 hops to the device.
     pub path: [Hop; 16],
+    /// Reserved: 0.
+    pub reserved: [u8; 4],
 }
 
 /// `struct zacpi_dmar_source`.
@@ -62,6 +68,8 @@ pub struct DmarSource {
     pub hop: Hop,
     /// Whether Path has a hop.
     pub has_hop: u8,
+    /// Reserved: 0.
+    pub reserved: [u8; 4],
 }
 
 /// `struct zacpi_dmar_reserved`.
@@ -74,6 +82,8 @@ pub struct DmarReserved {
     pub limit: u64,
     /// PCI segment group.
     pub segment: u16,
+    /// Reserved: 0.
+    pub reserved: [u8; 6],
 }
 
 /// `struct zacpi_dmar_root_ports`.
@@ -96,6 +106,8 @@ pub struct DmarAffinity {
     pub register_base: u64,
     /// Proximity Domain.
     pub domain: u32,
+    /// Reserved: 0.
+    pub reserved: [u8; 4],
 }
 
 /// `struct zacpi_ivrs_unit`.
@@ -122,6 +134,8 @@ pub struct IvrsUnit {
     pub flags: u8,
     /// Has extended features: 0 for Type 0x10.
     pub has_extended_features: u8,
+    /// Reserved: 0.
+    pub reserved: u8,
 }
 
 /// `struct zacpi_ivrs_device`.
@@ -134,6 +148,8 @@ pub struct IvrsDevice {
     pub source_id: u16,
     /// DTE Setting of the entry.
     pub settings: u8,
+    /// Reserved: 0.
+    pub reserved: [u8; 5],
 }
 
 /// `struct zacpi_ivrs_memory`.
@@ -152,6 +168,8 @@ pub struct IvrsMemory {
     pub block_type: u8,
     /// Flags: of `enum zacpi_ivmd_flag`.
     pub flags: u8,
+    /// Reserved: 0.
+    pub reserved: [u8; 2],
 }
 
 /// `struct zacpi_ivrs_entry`.
@@ -184,4 +202,6 @@ pub struct IvrsEntry {
     pub unique_id_format: u8,
     /// The first 32 bytes of the device's unique id, and zeros.
     pub unique_id: [u8; 32],
+    /// Reserved: 0.
+    pub reserved: u8,
 }

@@ -16,6 +16,8 @@ pub struct MemoryAffinity {
     pub is_hot_pluggable: u8,
     /// Whether it is non-volatile.
     pub is_non_volatile: u8,
+    /// Reserved: 0.
+    pub reserved: [u8; 2],
 }
 
 /// `struct zacpi_processor_affinity`.
@@ -30,6 +32,8 @@ pub struct ProcessorAffinity {
     pub clock_domain: u32,
     /// Entry type: 0, 2 or 3.
     pub entry_type: u8,
+    /// Reserved: 0.
+    pub reserved: [u8; 3],
 }
 
 /// `struct zacpi_generic_initiator`.
@@ -45,6 +49,8 @@ pub struct GenericInitiator {
     pub handle_type: u8,
     /// Device Handle.
     pub handle: [u8; 16],
+    /// Reserved: 0.
+    pub reserved: [u8; 2],
 }
 
 /// `struct zacpi_its_affinity`.
@@ -66,4 +72,6 @@ pub struct Localities {
     /// Is sane: 1: there are localities, the table lists all distances, each locality is at 10 from itself, and at more
     /// than 10 from others.
     pub is_sane: u8,
+    /// Reserved: 0.
+    pub reserved: [u8; 7],
 }

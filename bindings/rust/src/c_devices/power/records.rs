@@ -18,6 +18,8 @@ pub struct Step {
     pub width: u8,
     /// Kind: of `enum zacpi_step_kind`.
     pub kind: u8,
+    /// Reserved: 0.
+    pub reserved: [u8; 6],
 }
 
 /// `struct zacpi_plan`.
@@ -28,6 +30,8 @@ pub struct Plan {
     pub steps: [Step; 8],
     /// The number of steps.
     pub count: u32,
+    /// Reserved: 0.
+    pub reserved: [u8; 4],
 }
 
 /// `struct zacpi_sleep_types`.

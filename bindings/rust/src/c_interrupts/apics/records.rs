@@ -22,6 +22,8 @@ pub struct InterruptModel {
     pub known: u8,
     /// PCAT_COMPAT, bit 0 of Flags: there is a pair of 8259s to be masked.
     pub also_has_8259: u8,
+    /// Reserved: 0.
+    pub reserved: [u8; 6],
 }
 
 /// `struct zacpi_local_apic`.
@@ -32,6 +34,8 @@ pub struct LocalApic {
     pub address: u64,
     /// PCAT_COMPAT, bit 0 of Flags.
     pub also_has_8259: u8,
+    /// Reserved: 0.
+    pub reserved: [u8; 7],
 }
 
 /// `struct zacpi_io_apic`.
@@ -44,6 +48,8 @@ pub struct IoApic {
     pub global_system_interrupt_base: u32,
     /// The id.
     pub id: u8,
+    /// Reserved: 0.
+    pub reserved: [u8; 3],
 }
 
 /// `struct zacpi_interrupt_source_override`.
@@ -72,6 +78,8 @@ pub struct NmiSource {
     pub polarity: u8,
     /// The trigger mode of its interrupt, as the table has it.
     pub trigger: u8,
+    /// Reserved: 0.
+    pub reserved: [u8; 2],
 }
 
 /// `struct zacpi_nmi_line`.
@@ -144,6 +152,8 @@ pub struct Interrupt {
     pub polarity: u8,
     /// The trigger mode of its interrupt, as the table has it.
     pub trigger: u8,
+    /// Reserved: 0.
+    pub reserved: [u8; 2],
 }
 
 /// `struct zacpi_io_apic_pin`.
@@ -168,6 +178,8 @@ pub struct IsaRoute {
     pub present: u8,
     /// Has pin: 0: it isn't present, or zacpi_get_io_apic_pin fails.
     pub has_pin: u8,
+    /// Reserved: 0.
+    pub reserved: [u8; 2],
 }
 
 /// `struct zacpi_isa_interrupts`.
