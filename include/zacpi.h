@@ -357,7 +357,8 @@ struct zacpi_rsdp { /* Root System Description Pointer (RSDP), section 5.2.5.3 *
 struct zacpi_table {
     zacpi_u64 address;
     uint32_t length;
-    uint8_t signature[4], revision, oem_id[6], oem_table_id[8];
+    struct zacpi_signature signature;
+    uint8_t revision, oem_id[6], oem_table_id[8];
     uint8_t reserved_1; /* 0 */
     uint32_t oem_revision;
     uint8_t creator_id[4];
@@ -689,7 +690,7 @@ struct zacpi_console { /* SPCR, whose layout and names of fields are Microsoft's
     uint32_t pci_flags;                    /* bit 0: neither switch the device off nor look for its
                                             * like */
     uint16_t pci_device_id, pci_vendor_id; /* 0xffff: no PCI device */
-    uint8_t interface;                     /* of enum zacpi_console_type */
+    uint8_t interface_type;                /* of enum zacpi_console_type */
     uint8_t irq;                           /* on the 8259s; 0 unless it is there */
     uint8_t has_irq;                       /* bit 0 of Interrupt Type is set */
     uint8_t has_global_system_interrupt;   /* one of bits 1 to 4 of Interrupt Type is set */
@@ -1346,6 +1347,11 @@ struct zacpi_localities {
 ZACPI_STATUS zacpi_list_memory_affinities(const struct zacpi_source *source,
                                           struct zacpi_memory_affinity *out, size_t capacity,
                                           size_t *count, struct zacpi_signature *signature);
+/* Lists the items of zacpi_list_memory_affinities from the `from`-th on, from 0 on; `count` is of
+ * all. Fails with an opening error, or ZACPI_TABLE_MISSING "SRAT". */
+ZACPI_STATUS zacpi_list_memory_affinities_from(const struct zacpi_source *source, size_t from,
+                                               struct zacpi_memory_affinity *out, size_t capacity,
+                                               size_t *count, struct zacpi_signature *signature);
 /* Lists the processors that the SRAT puts into domains, those that the MADT lacks too: its entries
  * of Types 0, 2 and 3 that are enabled (bit 0 of Flags), up to where no entry begins; of several
  * for one processor the last counts. Fails with an opening error, or ZACPI_TABLE_MISSING "SRAT". */

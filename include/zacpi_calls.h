@@ -1087,6 +1087,23 @@ ZACPI_STATUS zacpi_list_memory_affinities(const struct zacpi_source *source,
                    ZACPI_COUNTED(count), signature ? signature : &unasked));
 }
 
+zacpi_status ZACPI_CALL zacpi_1_list_memory_affinities_from(const struct zacpi_source *source,
+                                                            zacpi_number from,
+                                                            struct zacpi_memory_affinity *out,
+                                                            zacpi_number capacity,
+                                                            zacpi_number *count,
+                                                            struct zacpi_signature *signature);
+ZACPI_NONNULL((1, 5))
+ZACPI_STATUS zacpi_list_memory_affinities_from(const struct zacpi_source *source, size_t from,
+                                               struct zacpi_memory_affinity *out, size_t capacity,
+                                               size_t *count, struct zacpi_signature *signature) {
+    const struct zacpi_source kept_source = zacpi_source_kept(source);
+    struct zacpi_signature unasked;
+    ZACPI_COUNTING(count, zacpi_1_list_memory_affinities_from(&kept_source, from,
+                   capacity ? out : (struct zacpi_memory_affinity *)ZACPI_NOTHING, capacity,
+                   ZACPI_COUNTED(count), signature ? signature : &unasked));
+}
+
 zacpi_status ZACPI_CALL zacpi_1_list_processor_affinities(const struct zacpi_source *source,
                                                           struct zacpi_processor_affinity *out,
                                                           zacpi_number capacity,

@@ -10,12 +10,13 @@ FIELDS(of_root, F(struct zacpi_root, address), F(struct zacpi_root, length), F(s
 FIELDS(of_rsdp, F(struct zacpi_rsdp, address), F(struct zacpi_rsdp, xsdt_address), F(struct zacpi_rsdp, rsdt_address),
        F(struct zacpi_rsdp, length), F(struct zacpi_rsdp, revision), F(struct zacpi_rsdp, oem_id),
        ZERO(struct zacpi_rsdp, reserved));
-FIELDS(of_table, F(struct zacpi_table, address), F(struct zacpi_table, length), F(struct zacpi_table, signature),
-       F(struct zacpi_table, revision), F(struct zacpi_table, oem_id), F(struct zacpi_table, oem_table_id),
-       ZERO(struct zacpi_table, reserved_1), F(struct zacpi_table, oem_revision), F(struct zacpi_table, creator_id),
-       F(struct zacpi_table, creator_revision), ZERO(struct zacpi_table, reserved_2));
+FIELDS(of_table, F(struct zacpi_table, address), F(struct zacpi_table, length),
+       F(struct zacpi_table, signature.letters), F(struct zacpi_table, revision), F(struct zacpi_table, oem_id),
+       F(struct zacpi_table, oem_table_id), ZERO(struct zacpi_table, reserved_1), F(struct zacpi_table, oem_revision),
+       F(struct zacpi_table, creator_id), F(struct zacpi_table, creator_revision),
+       ZERO(struct zacpi_table, reserved_2));
 FIELDS(of_member, F(struct zacpi_member, table.address), F(struct zacpi_member, table.length),
-       F(struct zacpi_member, table.signature), F(struct zacpi_member, table.revision),
+       F(struct zacpi_member, table.signature.letters), F(struct zacpi_member, table.revision),
        F(struct zacpi_member, table.oem_id), F(struct zacpi_member, table.oem_table_id),
        ZERO(struct zacpi_member, table.reserved_1), F(struct zacpi_member, table.oem_revision),
        F(struct zacpi_member, table.creator_id), F(struct zacpi_member, table.creator_revision),
@@ -126,7 +127,7 @@ FIELDS(of_console, F(struct zacpi_console, base.at.address), F(struct zacpi_cons
        F(struct zacpi_console, baud_rate), F(struct zacpi_console, global_system_interrupt),
        F(struct zacpi_console, clock_frequency), F(struct zacpi_console, pci_flags),
        F(struct zacpi_console, pci_device_id), F(struct zacpi_console, pci_vendor_id),
-       F(struct zacpi_console, interface), F(struct zacpi_console, irq), F(struct zacpi_console, has_irq),
+       F(struct zacpi_console, interface_type), F(struct zacpi_console, irq), F(struct zacpi_console, has_irq),
        F(struct zacpi_console, has_global_system_interrupt), F(struct zacpi_console, has_baud_rate),
        F(struct zacpi_console, parity), F(struct zacpi_console, stop_bits), F(struct zacpi_console, pci_segment),
        F(struct zacpi_console, pci_bus), F(struct zacpi_console, pci_device), F(struct zacpi_console, pci_function),

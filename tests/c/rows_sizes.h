@@ -77,7 +77,7 @@ IS_FULL(zacpi_facs, SIZE_OF(zacpi_facs, address) + SIZE_OF(zacpi_facs, waking_ve
 IS_FULL(zacpi_console, SIZE_OF(zacpi_console, base) + SIZE_OF(zacpi_console, baud_rate) +
         SIZE_OF(zacpi_console, global_system_interrupt) + SIZE_OF(zacpi_console, clock_frequency) +
         SIZE_OF(zacpi_console, pci_flags) + SIZE_OF(zacpi_console, pci_device_id) +
-        SIZE_OF(zacpi_console, pci_vendor_id) + SIZE_OF(zacpi_console, interface) + SIZE_OF(zacpi_console, irq) +
+        SIZE_OF(zacpi_console, pci_vendor_id) + SIZE_OF(zacpi_console, interface_type) + SIZE_OF(zacpi_console, irq) +
         SIZE_OF(zacpi_console, has_irq) + SIZE_OF(zacpi_console, has_global_system_interrupt) +
         SIZE_OF(zacpi_console, has_baud_rate) + SIZE_OF(zacpi_console, parity) + SIZE_OF(zacpi_console, stop_bits) +
         SIZE_OF(zacpi_console, pci_segment) + SIZE_OF(zacpi_console, pci_bus) + SIZE_OF(zacpi_console, pci_device) +

@@ -66,7 +66,7 @@ fn range(address: u64, length: u64) -> AddressRange {
 fn record(address: u64, signature: &[u8; 4], length: u32, revision: u8) -> Table {
     let (oem_id, oem_table_id) = (*b"OEMID ", *b"HANDMADE");
     zeros_but(|it: &mut Table| {
-        (it.address, it.length, it.signature, it.revision) = (address, length, *signature, revision);
+        (it.address, it.length, it.signature, it.revision) = (address, length, named(signature), revision);
         (it.oem_id, it.oem_table_id) = (oem_id, oem_table_id);
     })
 }

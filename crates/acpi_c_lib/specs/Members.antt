@@ -11,7 +11,7 @@ abbrev pub unmapped : ℕ → Table
 unmapped p = record {
   address = p;
   length = 0;
-  signature = replicate 4 0;
+  signature = record { letters = replicate 4 0 };
   revision = 0;
   oem_id = replicate 6 0;
   oem_table_id = replicate 8 0;

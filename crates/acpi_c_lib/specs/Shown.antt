@@ -38,7 +38,7 @@ abbrev pub table_record : ℕ × List ℕ → Table
 table_record found = record {
   address = found.0;
   length = (header_at found.1).length;
-  signature = letters_of (header_at found.1).signature;
+  signature = record { letters = letters_of (header_at found.1).signature };
   revision = (header_at found.1).revision;
   oem_id = (header_at found.1).oem_id;
   oem_table_id = (header_at found.1).oem_table_id;

@@ -6,7 +6,7 @@ ghost use Rattle.acpi_c_lib.specs.Words.{Fills, lists_each, member_at, member_st
 
 use crate::lists::{Listing, fill};
 use crate::opening::open;
-use crate::records::{Member, Source, Table};
+use crate::records::{Member, Signature, Source, Table};
 use crate::refusal::{Refusal, acpi_code};
 use crate::regions::Mapped;
 use crate::tables::entry;
@@ -79,7 +79,7 @@ fn unmapped(address: u64) -> Table
     Table {
         address,
         length: 0,
-        signature: [0; 4],
+        signature: Signature { letters: [0; 4] },
         revision: 0,
         oem_id: [0; 6],
         oem_table_id: [0; 8],

@@ -69,7 +69,7 @@ pub struct Rsdp {
 pub struct Table {
     pub address: u64,
     pub length: u32,
-    pub signature: [u8; 4],
+    pub signature: Signature,
     pub revision: u8,
     pub oem_id: [u8; 6],
     pub oem_table_id: [u8; 8],

@@ -6,7 +6,7 @@ use crate::acpi::{AcpiHandler, PhysicalMapping, PhysicalRecord, Pointers};
 use crate::base::table::own_valid_by;
 use crate::c_lib::lists::{Listing, fill};
 use crate::c_lib::opening::open;
-use crate::c_lib::records::{Member, Source, Table};
+use crate::c_lib::records::{Member, Signature, Source, Table};
 use crate::c_lib::refusal::{Refusal, acpi_code};
 use crate::c_lib::regions::Mapped;
 use crate::c_lib::tables::entry;
@@ -50,7 +50,7 @@ fn unmapped(address: u64) -> Table {
     Table {
         address,
         length: 0,
-        signature: [0; 4],
+        signature: Signature { letters: [0; 4] },
         revision: 0,
         oem_id: [0; 6],
         oem_table_id: [0; 8],

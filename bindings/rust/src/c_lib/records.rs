@@ -98,7 +98,7 @@ pub struct Table {
     /// The number of bytes.
     pub length: u32,
     /// Signature.
-    pub signature: [u8; 4],
+    pub signature: Signature,
     /// Revision.
     pub revision: u8,
     /// OEMID.

@@ -17,7 +17,7 @@ pub(crate) fn entry<H: AcpiHandler>(table: &PhysicalMapping<'_, H, SdtHeader>) -
     Table {
         address: table.physical_start(),
         length: header.length,
-        signature: header.signature.to_bytes(),
+        signature: records::Signature { letters: header.signature.to_bytes() },
         revision: header.revision,
         oem_id: header.oem_id,
         oem_table_id: header.oem_table_id,

@@ -72,7 +72,7 @@ pub struct Console {
     pub pci_flags: u32,
     pub pci_device_id: u16,
     pub pci_vendor_id: u16,
-    pub interface: u8,
+    pub interface_type: u8,
     pub irq: u8,
     pub has_irq: u8,
     pub has_global_system_interrupt: u8,

@@ -128,8 +128,8 @@ pub struct Console {
     pub pci_device_id: u16,
     /// PCI Vendor ID. 0xffff: no PCI device.
     pub pci_vendor_id: u16,
-    /// Interface: of `enum zacpi_console_type`.
-    pub interface: u8,
+    /// Interface type: of `enum zacpi_console_type`.
+    pub interface_type: u8,
     /// IRQ: on the 8259s; 0 unless it is there.
     pub irq: u8,
     /// Has IRQ: bit 0 of Interrupt Type is set.
