@@ -72,7 +72,7 @@ fn reads_domains() {
         let list: Vec<GenericInitiator> = all(|out| affinities::srat_entries(source, out)).unwrap();
         assert_eq!(plains(&list), ["GenericInitiator 2 1 1 1 0 34 12 0 0 0 0 0 0 0 0 0 0 0 0"]);
         let list: Vec<ItsAffinity> = all(|out| affinities::srat_entries(source, out)).unwrap();
-        assert_eq!(list, [ItsAffinity { domain: 4, its_id: 0x11 }]);
+        assert_eq!(plains(&list), ["ItsAffinity 4 11"]);
         let none = Err(Refusal::NoDomain);
         assert_eq!([0x1fff, 0x2000, 0x4000].map(|at| numa::domain_of_address(source, at)), [Ok(1), Ok(2), none]);
         assert_eq!([3, 0x100, 4].map(|id| numa::domain_of_apic(source, id)), [Ok(0x105), Ok(6), none]);

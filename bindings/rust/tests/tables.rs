@@ -99,8 +99,12 @@ fn finds_and_lists_tables() {
         let expected = [(*b"FACP", 116, 1), (*b"SSDT", 37, 2), (*b"SSDT", 36, 1), (*b"DMAR", 61, 1)];
         assert_eq!(headers.collect::<Vec<_>>(), expected);
         assert_eq!(tables.addresses().collect::<Vec<_>>(), [FADT, BAD_SSDT, SSDT, OTHER_SSDT, DMAR]);
-        let fault = TableFault { address: BAD_SSDT, error: bad_sum(Signature::SSDT) };
+        let fault: TableFault = tables.faults::<Ssdt>().next().unwrap();
+        assert_eq!((fault.address, fault.error), (BAD_SSDT, bad_sum(Signature::SSDT)));
         assert_eq!(tables.faults::<Ssdt>().collect::<Vec<_>>(), [fault]);
+        let (mut elsewhere, mut otherwise) = (fault, fault);
+        (elsewhere.address, otherwise.error) = (SSDT, AcpiError::MapFailed);
+        assert!(fault != elsewhere && fault != otherwise);
         let members = tables.members().map(|it| (it.address, it.header.map(|header| header.length)));
         let bad = Err(bad_sum(Signature::SSDT));
         let expected = [(FADT, Ok(116)), (BAD_SSDT, bad), (SSDT, Ok(37)), (OTHER_SSDT, Ok(36)), (DMAR, Ok(61))];
@@ -155,7 +159,8 @@ fn fills_each_list() {
         let ranges: Vec<Range> = all(|out| walks::ranges(source, out)).unwrap();
         assert_eq!((ranges.len(), ranges[5]), (6, Range { address: DSDT, length: 40 }));
         let list: Vec<Member> = all(|out| members::members(source, out)).unwrap();
-        let member = |table, status| zeros_but(|it: &mut Member| (it.table, it.status, it.has_header) = (table, status, 1));
+        let member =
+            |table, status| zeros_but(|it: &mut Member| (it.table, it.status, it.has_header) = (table, status, 1));
         assert_eq!(list[0], member(expected[0], 0));
         // Creator Revision is the header's last field.
         let mut bad = record(BAD_SSDT, b"SSDT", 36, 1);

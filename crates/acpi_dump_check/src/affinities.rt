@@ -171,8 +171,16 @@ fn domain_of(entry: &SratEntry) -> (u32, usize) {
         SratEntry::Memory(it) => (it.domain, 2),
         SratEntry::LocalX2Apic(it) => (it.domain, 4),
         SratEntry::Gicc(it) => (it.domain, 2),
-        SratEntry::GicIts(it) => (it.domain, 2),
         SratEntry::GenericInitiator(it) | SratEntry::GenericPort(it) => (it.domain, 4),
+        other => (its_domain(other), 2),
+    }
+}
+
+/// The domain of an entry of an Interrupt Translation Service, the type that is left.
+fn its_domain(entry: &SratEntry) -> u32 {
+    match entry {
+        SratEntry::GicIts(it) => it.domain,
+        _ => 0,
     }
 }
 

@@ -8,6 +8,7 @@ use crate::base::{AcpiResult, Lender};
 
 /// A member of the root table: a pointer, and the header of the table there or why that is refused.
 #[derive(Clone, Copy)]
+#[non_exhaustive]
 pub struct TableMember {
     /// The pointer: the physical address that the root table lists.
     pub address: u64,

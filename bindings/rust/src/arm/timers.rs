@@ -11,6 +11,7 @@ use readings::watchdog_at;
 
 /// GT Block: a block of timers in memory (section 5.2.24.1.1).
 #[derive(Clone, Copy)]
+#[non_exhaustive]
 pub struct GtBlock<'a> {
     /// GT Block Physical address: that of the block's control frame.
     pub address: u64,
@@ -39,6 +40,7 @@ pub struct SbsaWatchdog {
 
 /// A timer of the platform: a Platform Timer Structure of a GTDT (section 5.2.24.1).
 #[derive(Clone, Copy)]
+#[non_exhaustive]
 pub enum PlatformTimer<'a> {
     /// GT Block, type 0 (section 5.2.24.1.1).
     GtBlock(GtBlock<'a>),

@@ -35,6 +35,7 @@ pub struct Register {
 /// `struct zacpi_pm_timer`.
 #[repr(C)]
 #[derive(Clone, Copy, Debug, Default, PartialEq, Eq)]
+#[non_exhaustive]
 pub struct PmTimer {
     /// X_PM_TMR_BLK or PM_TMR_BLK.
     pub base: GenericAddress,

@@ -6,6 +6,7 @@ use crate::c_lib::refusal::Refusal;
 /// An entry at fault, or the malformed front that ends a table's entries.
 #[repr(C)]
 #[derive(Clone, Copy, Debug, Default, PartialEq, Eq)]
+#[non_exhaustive]
 pub struct EntryFault {
     /// Address: of the entry, or where none begins.
     pub address: u64,

@@ -32,6 +32,7 @@ pub struct Source<'a> {
 /// `struct zacpi_place`.
 #[repr(C)]
 #[derive(Clone, Copy, Debug, Default, PartialEq, Eq)]
+#[non_exhaustive]
 pub struct Place {
     /// Which region it is in, from 0 on.
     pub region: usize,
@@ -50,6 +51,7 @@ pub struct Signature {
 /// `struct zacpi_root`.
 #[repr(C)]
 #[derive(Clone, Copy, Debug, Default, PartialEq, Eq)]
+#[non_exhaustive]
 pub struct Root {
     /// The physical address.
     pub address: u64,
@@ -72,6 +74,7 @@ pub struct Root {
 /// `struct zacpi_rsdp`.
 #[repr(C)]
 #[derive(Clone, Copy, Debug, Default, PartialEq, Eq)]
+#[non_exhaustive]
 pub struct Rsdp {
     /// The physical address.
     pub address: u64,
@@ -92,6 +95,7 @@ pub struct Rsdp {
 /// `struct zacpi_table`.
 #[repr(C)]
 #[derive(Clone, Copy, Debug, Default, PartialEq, Eq)]
+#[non_exhaustive]
 pub struct Table {
     /// The physical address.
     pub address: u64,
@@ -120,6 +124,7 @@ pub struct Table {
 /// `struct zacpi_member`.
 #[repr(C)]
 #[derive(Clone, Copy, Debug, Default, PartialEq, Eq)]
+#[non_exhaustive]
 pub struct Member {
     /// Table: zeros but for the address unless has_header.
     pub table: Table,
@@ -134,6 +139,7 @@ pub struct Member {
 /// `struct zacpi_fault`.
 #[repr(C)]
 #[derive(Clone, Copy, Debug, Default, PartialEq, Eq)]
+#[non_exhaustive]
 pub struct Fault {
     /// The physical address.
     pub address: u64,
@@ -165,6 +171,7 @@ pub struct Walk {
 /// `struct zacpi_entry`.
 #[repr(C)]
 #[derive(Clone, Copy, Debug, Default, PartialEq, Eq)]
+#[non_exhaustive]
 pub struct Entry {
     /// The physical address.
     pub address: u64,
@@ -177,6 +184,7 @@ pub struct Entry {
 /// `struct zacpi_aml_table`.
 #[repr(C)]
 #[derive(Clone, Copy, Debug, Default, PartialEq, Eq)]
+#[non_exhaustive]
 pub struct AmlTable {
     /// Address: of the byte after the table's header.
     pub address: u64,
@@ -193,6 +201,7 @@ pub struct AmlTable {
 /// `struct zacpi_facs`.
 #[repr(C)]
 #[derive(Clone, Copy, Debug, Default, PartialEq, Eq)]
+#[non_exhaustive]
 pub struct Facs {
     /// The physical address.
     pub address: u64,

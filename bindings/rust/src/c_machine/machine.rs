@@ -17,6 +17,7 @@ use crate::write::{
 
 /// What a table is to contain that is written from a record of C's.
 #[derive(Clone, Copy)]
+#[non_exhaustive]
 pub enum Contents<'a> {
     /// A FADT.
     Fadt(FixedHardware),

@@ -19,6 +19,7 @@ pub use units::{DmarUnits, UnitSource};
 
 /// The DMA Remapping Reporting Structure (DMAR, section 8.1). Its structures are after 48 fixed bytes; `DmarUnits`
 /// reads them.
+#[non_exhaustive]
 pub struct Dmar {
     /// The header that every table begins with.
     pub header: SdtHeader,

@@ -14,6 +14,7 @@ pub use entry::{DeviceEntry, DeviceEntryIter, SpecialDevice};
 
 /// The I/O Virtualization Reporting Structure (IVRS, section 5.2). Its blocks are after 48 fixed bytes; `IvrsBlocks`
 /// reads them.
+#[non_exhaustive]
 pub struct Ivrs {
     /// The header that every table begins with.
     pub header: SdtHeader,

@@ -8,6 +8,7 @@ use crate::base::sdt::SdtHeader;
 
 /// The System Locality Information Table (SLIT, section 5.2.17). After these fields it has a byte for each
 /// pair of localities, which `Distances` reads.
+#[non_exhaustive]
 pub struct Slit {
     /// The header that every table begins with.
     pub header: SdtHeader,

@@ -107,6 +107,7 @@ pub struct Plic {
 
 /// An entry of a MADT that describes a RISC-V machine, with its fields.
 #[derive(Clone, Copy, Debug)]
+#[non_exhaustive]
 pub enum RiscvEntry {
     /// RISC-V Interrupt Controller, type 0x18.
     Rintc(Rintc),

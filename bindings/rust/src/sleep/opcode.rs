@@ -6,6 +6,7 @@ use crate::sleep::error::AmlError;
 
 /// An opcode.
 #[derive(Clone, Copy)]
+#[non_exhaustive]
 pub struct Opcode {
     /// Its number: of an opcode of two bytes, the first is the higher one.
     pub code: u16,

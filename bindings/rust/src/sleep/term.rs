@@ -8,6 +8,7 @@ use crate::sleep::name::{begins_name, name_at};
 
 /// A part of a term.
 #[derive(Clone, Copy)]
+#[non_exhaustive]
 pub enum Part {
     /// A name.
     Name,

@@ -6,6 +6,7 @@ use crate::table_writer::spelled::{Each, Spelled};
 
 /// A field: a number in a number of bytes, the lowest first, or a number of zeros.
 #[derive(Clone, Copy)]
+#[non_exhaustive]
 pub enum Field {
     /// A number in one byte.
     U8(u8),

@@ -25,6 +25,7 @@ pub struct GtBlockContents<'a, F = GtFrame> {
 
 /// A timer of the platform (section 5.2.24.1), in the words of `PlatformTimer`, as which it is read.
 #[derive(Clone, Copy)]
+#[non_exhaustive]
 pub enum PlatformTimerContents<'a, F = GtFrame> {
     /// GT Block.
     GtBlock(GtBlockContents<'a, F>),

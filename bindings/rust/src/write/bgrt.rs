@@ -9,6 +9,7 @@ use crate::table_writer::table::{Table, write};
 
 /// Orientation Offset: by how many degrees an image was turned clockwise before it was drawn (section 5.2.22).
 #[derive(Clone, Copy)]
+#[non_exhaustive]
 pub enum BgrtOrientation {
     /// Not at all.
     Degrees0,

@@ -29,6 +29,7 @@ pub struct AmlContents<'a> {
 
 /// A table that an XSDT can list, with its contents. Each is written as the function of its name writes it.
 #[derive(Clone, Copy)]
+#[non_exhaustive]
 pub enum TableContents<'a> {
     /// `write_madt`.
     Madt(MadtContents<'a>),

@@ -6,6 +6,7 @@ use core::fmt;
 
 /// The errors of `MappedRegion::new` and `MappedRegions::new`: why regions are no memory.
 #[derive(Clone, Copy, Debug, PartialEq, Eq)]
+#[non_exhaustive]
 pub enum RegionError {
     /// A region's start and its length in bytes add up to more than 2^64 - 1.
     EndTooLarge,

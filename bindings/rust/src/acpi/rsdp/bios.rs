@@ -7,6 +7,7 @@ use crate::base::{AcpiError, AcpiResult, Lender, PhysicalMapping};
 
 /// An area of physical memory in which firmware may put the RSDP (section 5.2.5.1).
 #[derive(Clone, Copy)]
+#[non_exhaustive]
 pub struct Area {
     /// Its first address.
     pub start: u64,

@@ -157,6 +157,7 @@ pub struct Console {
 /// `struct zacpi_ecam_range`.
 #[repr(C)]
 #[derive(Clone, Copy, Debug, Default, PartialEq, Eq)]
+#[non_exhaustive]
 pub struct EcamRange {
     /// The physical address.
     pub address: u64,

@@ -7,6 +7,7 @@ pub use crate::iommu::Hop;
 /// `struct zacpi_dmar_flags`.
 #[repr(C)]
 #[derive(Clone, Copy, Debug, Default, PartialEq, Eq)]
+#[non_exhaustive]
 pub struct DmarFlags {
     /// Host Address Width plus 1.
     pub address_bits: u16,
@@ -19,6 +20,7 @@ pub struct DmarFlags {
 /// `struct zacpi_dmar_unit`.
 #[repr(C)]
 #[derive(Clone, Copy, Debug, Default, PartialEq, Eq)]
+#[non_exhaustive]
 pub struct DmarUnit {
     /// The physical address of its registers.
     pub register_base: u64,
@@ -39,6 +41,7 @@ pub struct DmarUnit {
 /// `struct zacpi_dmar_scope`.
 #[repr(C)]
 #[derive(Clone, Copy, Debug, Default, PartialEq, Eq)]
+#[non_exhaustive]
 pub struct DmarScope {
     /// Path length: how many hops Path has; `path` lists the first 16, then zeros.
     pub path_length: usize,
@@ -59,6 +62,7 @@ pub struct DmarScope {
 /// `struct zacpi_dmar_source`.
 #[repr(C)]
 #[derive(Clone, Copy, Debug, Default, PartialEq, Eq)]
+#[non_exhaustive]
 pub struct DmarSource {
     /// The unit that remaps the device.
     pub unit: DmarUnit,
@@ -75,6 +79,7 @@ pub struct DmarSource {
 /// `struct zacpi_dmar_reserved`.
 #[repr(C)]
 #[derive(Clone, Copy, Debug, Default, PartialEq, Eq)]
+#[non_exhaustive]
 pub struct DmarReserved {
     /// Base: the first byte.
     pub base: u64,
@@ -89,6 +94,7 @@ pub struct DmarReserved {
 /// `struct zacpi_dmar_root_ports`.
 #[repr(C)]
 #[derive(Clone, Copy, Debug, Default, PartialEq, Eq)]
+#[non_exhaustive]
 pub struct DmarRootPorts {
     /// PCI segment group.
     pub segment: u16,
@@ -101,6 +107,7 @@ pub struct DmarRootPorts {
 /// `struct zacpi_dmar_affinity`.
 #[repr(C)]
 #[derive(Clone, Copy, Debug, Default, PartialEq, Eq)]
+#[non_exhaustive]
 pub struct DmarAffinity {
     /// Register base: of the unit that is in the domain.
     pub register_base: u64,
@@ -113,6 +120,7 @@ pub struct DmarAffinity {
 /// `struct zacpi_ivrs_unit`.
 #[repr(C)]
 #[derive(Clone, Copy, Debug, Default, PartialEq, Eq)]
+#[non_exhaustive]
 pub struct IvrsUnit {
     /// The physical address of its registers.
     pub base: u64,
@@ -141,6 +149,7 @@ pub struct IvrsUnit {
 /// `struct zacpi_ivrs_device`.
 #[repr(C)]
 #[derive(Clone, Copy, Debug, Default, PartialEq, Eq)]
+#[non_exhaustive]
 pub struct IvrsDevice {
     /// The unit that remaps the device.
     pub unit: IvrsUnit,
@@ -155,6 +164,7 @@ pub struct IvrsDevice {
 /// `struct zacpi_ivrs_memory`.
 #[repr(C)]
 #[derive(Clone, Copy, Debug, Default, PartialEq, Eq)]
+#[non_exhaustive]
 pub struct IvrsMemory {
     /// The physical address of its first byte.
     pub start: u64,
@@ -175,6 +185,7 @@ pub struct IvrsMemory {
 /// `struct zacpi_ivrs_entry`.
 #[repr(C)]
 #[derive(Clone, Copy, Debug, Default, PartialEq, Eq)]
+#[non_exhaustive]
 pub struct IvrsEntry {
     /// Unique ID length: `unique_id` is the first 32 bytes of Unique ID, then zeros.
     pub unique_id_length: usize,

@@ -23,6 +23,7 @@ pub struct MemoryAffinity {
 /// `struct zacpi_processor_affinity`.
 #[repr(C)]
 #[derive(Clone, Copy, Debug, Default, PartialEq, Eq)]
+#[non_exhaustive]
 pub struct ProcessorAffinity {
     /// APIC ID of Type 0, X2APIC ID of Type 2, ACPI Processor UID of Type 3.
     pub id: u32,
@@ -39,6 +40,7 @@ pub struct ProcessorAffinity {
 /// `struct zacpi_generic_initiator`.
 #[repr(C)]
 #[derive(Clone, Copy, Debug, Default, PartialEq, Eq)]
+#[non_exhaustive]
 pub struct GenericInitiator {
     /// Proximity Domain.
     pub domain: u32,
@@ -56,6 +58,7 @@ pub struct GenericInitiator {
 /// `struct zacpi_its_affinity`.
 #[repr(C)]
 #[derive(Clone, Copy, Debug, Default, PartialEq, Eq)]
+#[non_exhaustive]
 pub struct ItsAffinity {
     /// Proximity Domain.
     pub domain: u32,
@@ -66,6 +69,7 @@ pub struct ItsAffinity {
 /// `struct zacpi_localities`.
 #[repr(C)]
 #[derive(Clone, Copy, Debug, Default, PartialEq, Eq)]
+#[non_exhaustive]
 pub struct Localities {
     /// Number of System Localities: rows of the matrix, from 0 on.
     pub localities: u64,

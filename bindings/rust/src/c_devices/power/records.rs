@@ -7,6 +7,7 @@ use crate::c_devices::records::Register;
 /// `struct zacpi_step`.
 #[repr(C)]
 #[derive(Clone, Copy, Debug, Default, PartialEq, Eq)]
+#[non_exhaustive]
 pub struct Step {
     /// At: present.
     pub at: Register,
@@ -25,6 +26,7 @@ pub struct Step {
 /// `struct zacpi_plan`.
 #[repr(C)]
 #[derive(Clone, Copy, Debug, Default, PartialEq, Eq)]
+#[non_exhaustive]
 pub struct Plan {
     /// Steps: zeros from `count` on.
     pub steps: [Step; 8],
@@ -37,6 +39,7 @@ pub struct Plan {
 /// `struct zacpi_sleep_types`.
 #[repr(C)]
 #[derive(Clone, Copy, Debug, Default, PartialEq, Eq)]
+#[non_exhaustive]
 pub struct SleepTypes {
     /// SLP_TYPa: the value for the first control register.
     pub a: u8,

@@ -5,6 +5,7 @@
 /// `struct zacpi_interrupt_model`.
 #[repr(C)]
 #[derive(Clone, Copy, Debug, Default, PartialEq, Eq)]
+#[non_exhaustive]
 pub struct InterruptModel {
     /// Local APIC address: of the last override of it (section 5.2.12.8), or else Local Interrupt Controller Address.
     pub local_apic_address: u64,
@@ -29,6 +30,7 @@ pub struct InterruptModel {
 /// `struct zacpi_local_apic`.
 #[repr(C)]
 #[derive(Clone, Copy, Debug, Default, PartialEq, Eq)]
+#[non_exhaustive]
 pub struct LocalApic {
     /// Address: as in `struct zacpi_interrupt_model`, by the entries up to where none begins.
     pub address: u64,
@@ -145,6 +147,7 @@ pub struct PlatformLists<'a> {
 /// `struct zacpi_interrupt`.
 #[repr(C)]
 #[derive(Clone, Copy, Debug, Default, PartialEq, Eq)]
+#[non_exhaustive]
 pub struct Interrupt {
     /// Global System Interrupt.
     pub global_system_interrupt: u32,
@@ -159,6 +162,7 @@ pub struct Interrupt {
 /// `struct zacpi_io_apic_pin`.
 #[repr(C)]
 #[derive(Clone, Copy, Debug, Default, PartialEq, Eq)]
+#[non_exhaustive]
 pub struct IoApicPin {
     /// The I/O APIC.
     pub io_apic: IoApic,
@@ -169,6 +173,7 @@ pub struct IoApicPin {
 /// `struct zacpi_isa_route`.
 #[repr(C)]
 #[derive(Clone, Copy, Debug, Default, PartialEq, Eq)]
+#[non_exhaustive]
 pub struct IsaRoute {
     /// Interrupt: what zacpi_get_isa_interrupt returns, or zeros.
     pub interrupt: Interrupt,
@@ -185,6 +190,7 @@ pub struct IsaRoute {
 /// `struct zacpi_isa_interrupts`.
 #[repr(C)]
 #[derive(Clone, Copy, Debug, Default, PartialEq, Eq)]
+#[non_exhaustive]
 pub struct IsaInterrupts {
     /// Routes: item n is irq n.
     pub routes: [IsaRoute; 16],

@@ -9,6 +9,7 @@ use crate::iommu::error::{IommuError, IommuResult};
 
 /// A unit, and how it knows a device that sends it interrupts (section 8.3.1).
 #[derive(Clone, Copy, Debug)]
+#[non_exhaustive]
 pub struct UnitSource {
     /// The unit that remaps the device's interrupts.
     pub unit: Drhd,

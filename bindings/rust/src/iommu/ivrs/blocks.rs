@@ -6,6 +6,7 @@ use crate::iommu::error::{IommuError, IommuResult};
 
 /// A unit, and how it treats a device.
 #[derive(Clone, Copy, Debug)]
+#[non_exhaustive]
 pub struct DeviceUnit {
     /// The unit that remaps the device.
     pub unit: Ivhd,

@@ -7,6 +7,7 @@ use crate::iommu::texts::up_to_zero;
 
 /// A special device, type 0x48 (section 5.2).
 #[derive(Clone, Copy, Debug)]
+#[non_exhaustive]
 pub struct SpecialDevice {
     /// Handle: of an I/O APIC its id, of an HPET its number.
     pub handle: u8,

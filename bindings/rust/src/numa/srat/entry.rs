@@ -21,6 +21,7 @@ pub(super) enum ProcessorId {
 
 /// An entry of a SRAT, of types 0 to 6, with its fields (section 5.2.16).
 #[derive(Clone, Copy, Debug)]
+#[non_exhaustive]
 pub enum SratEntry {
     /// Processor Local APIC/SAPIC Affinity Structure, type 0 (section 5.2.16.1): a processor, by the id of
     /// its local APIC.

@@ -42,6 +42,7 @@ pub struct FixedHardware {
 
 /// What hardware a FADT is of.
 #[derive(Clone, Copy)]
+#[non_exhaustive]
 pub enum FadtHardware {
     /// HW_REDUCED_ACPI: there is no fixed hardware.
     Reduced,
