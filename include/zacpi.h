@@ -42,7 +42,11 @@
  * (Length, SCI_INT) are from the document that lays the table out. A field without a comment is
  * what its name means; a yes-or-no field is 0 or 1. Addresses are physical, and lengths in bytes;
  * memory ends at the address after its last byte. Bytes past the end of a table or entry are read
- * as 0, and a field in every Revision of its table. Comments name the fields that differ. */
+ * as 0, and a field in every Revision of its table. Comments name the fields that differ.
+ *
+ * Reserved fields are 0 in what a call returns, and aren't looked at in what it is passed. In later
+ * versions they may be fields of a record that callers only read, and an enum may contain more
+ * numbers. No other byte of a record is padding, but the half that a pointer of 32 bits leaves. */
 #ifndef ZACPI_H
 #define ZACPI_H
 #include <stddef.h>
@@ -113,7 +117,7 @@ extern const uint8_t zacpi_needs_kernel_archive;
 
 /* Errors --------------------------------------------------------------------------------------- */
 
-typedef uint32_t zacpi_status; /* of enum zacpi_status_code; numbers stay */
+typedef uint32_t zacpi_status; /* of enum zacpi_status_code; numbers stay, others may come */
 
 enum zacpi_status_code {
     ZACPI_OK = 0,
