@@ -57,7 +57,7 @@ $(OUT)/acpi_dump: $(wildcard bindings/*/Cargo.toml) $(shell find bindings/rust/s
 	@$(CARGO) --version 2>/dev/null | awk -v least=$(RUST) '{ split($$2, has, "."); split(least, needs, "."); \
 	    new = has[1] > needs[1] || has[1] == needs[1] && has[2] + 0 >= needs[2] + 0 } END { exit !new }' || \
 	    { echo "the programs need cargo $(RUST) or later, which isn't there: https://rustup.rs has it" >&2; exit 1; }
-	$(CARGO) build --release --manifest-path bindings/programs/Cargo.toml --target-dir $(OUT)/cargo \
+	@CARGO="$(CARGO)" scripts/lib/cargo $(OUT) --release \
 	    $(if $(TARGET),--target $(TARGET) --no-default-features --features fleet)
 	cp $(NAMES:%=$(OUT)/cargo/$(if $(TARGET),$(TARGET)/)release/%) $(OUT)
 

@@ -37,33 +37,15 @@ has_rust() {
     [ "$oldest" = "$wanted" ] || { echo "skipped: rustc $oldest is older than $wanted"; return 1; }
 }
 
-# Has cargo take the crates of others from Debian's packages wherever it is run below $made, if they are there: those of
-# the programs' Cargo.lock, with its sums, which Debian's packages haven't all. Another Debian has other versions, of
-# which the programs' copies below $made are then built.
+# Has cargo take the crates of others from Debian's packages (scripts/lib/crates) wherever it is run below $made, if they
+# are there. Of a Debian with other versions than Cargo.lock has, the programs' copies below $made lose that.
 crates_of_debian() {
-    for crate in clap clap_complete flate2 serde_json strsim xz2; do
-        ls -d /usr/share/cargo/registry/$crate-[0-9]* >/dev/null 2>&1 || return 1
-    done
-    registry=$made/registry
-    mkdir -p "$made/.cargo" && locked_crates "$registry" ||
-        { registry=/usr/share/cargo/registry && rm -f "$made"/*/bindings/programs/Cargo.lock; }
-    cat >"$made/.cargo/config.toml" <<END
-[source.crates-io]
-replace-with = "debian"
-[source.debian]
-directory = "$registry"
-[net]
-offline = true
-END
-}
-locked_crates() { # FOLDER
-    awk -F '"' '/^name/ { crate = $2 } /^version/ { crate = crate "-" $2 } /^checksum/ { print crate, $2 }' \
-        bindings/programs/Cargo.lock >"$made/locked"
-    while read -r crate sum; do
-        [ -d "/usr/share/cargo/registry/$crate" ] && mkdir -p "$1/$crate" &&
-            ln -sf "/usr/share/cargo/registry/$crate"/* "$1/$crate" || return 1
-        printf '{"package": "%s", "files": {}}\n' "$sum" >"$1/$crate/.cargo-checksum.json"
-    done <"$made/locked"
+    scripts/lib/crates "$made/.cargo"
+    case $? in
+        0) registry=$made/.cargo/registry ;;
+        2) registry= && rm -f "$made"/*/bindings/programs/Cargo.lock ;;
+        *) return 1 ;;
+    esac
 }
 
 # What acpi_view says for every sample image, by each of its starts: a start of which it is known whether it opens
