@@ -9,6 +9,7 @@ use acpi::madt::MADT_GRAMMAR;
 use acpi::sdt::{Signature, field};
 use acpi_base::bytes::skip;
 use acpi_base::entries::split_front;
+use acpi_dump_walk::language::size;
 use acpi_dump_walk::share::share_of;
 use acpi_numa::Distances;
 use acpi_numa::srat::{SRAT_GRAMMAR, SratEntry};
@@ -97,7 +98,7 @@ fn add_processors(madt: &[u8], numbers: &mut Numbers) -> bool {
     for (offset, entry) in Pieces::of(madt, 44, (1, 1)) {
         let kind = field(entry, 0, 1);
         has_sapic |= kind == 7;
-        let least = MADT_GRAMMAR.layout.least_lengths.get(kind as usize);
+        let least = MADT_GRAMMAR.layout.least_lengths.get(size(kind));
         if entry.len() >= least.copied().unwrap_or(0) {
             numbers.add(&PROCESSORS, offset, entry);
         }
@@ -227,7 +228,7 @@ pub(crate) fn check_distances(slit: &[u8], findings: &mut Findings) {
         };
         let row = count.saturating_mul(from).saturating_add(44);
         if own != 10 {
-            let at = row.saturating_add(from) as usize;
+            let at = size(row.saturating_add(from));
             findings.add("slit-diagonal", at, &[from, own as u64]);
         }
         let (mut is_low, mut is_other) = (false, false);
@@ -235,7 +236,7 @@ pub(crate) fn check_distances(slit: &[u8], findings: &mut Findings) {
             let Some(distance) = distances.distance(from, to) else {
                 break;
             };
-            let (at, distance) = (row.saturating_add(to) as usize, distance as u64);
+            let (at, distance) = (size(row.saturating_add(to)), distance as u64);
             if distance < 10 && from != to && !is_low {
                 findings.add("slit-reserved-distance", at, &[to, distance, from]);
                 is_low = true;

@@ -14,6 +14,7 @@ use acpi::sdt::Signature;
 use acpi_dump_input::entries::{Entry, own_signature};
 use acpi_dump_input::status::Status;
 use acpi_dump_walk::fields::print_path;
+use acpi_dump_walk::language::size;
 use acpi_dump_walk::walk::has_aml;
 use names::Names;
 
@@ -111,7 +112,7 @@ fn add_table<'a>(
         findings.table = number;
         let start = findings.text.length();
         why.print(&mut findings.text);
-        findings.end("table-malformed", offset as usize, start);
+        findings.end("table-malformed", size(offset), start);
     }
 }
 

@@ -4,6 +4,7 @@ use crate::numbers::Numbers;
 use crate::rules::rules;
 use acpi_dump_input::entries::{Entry, own_signature};
 use acpi_dump_input::judgement::{Finding, Judgement, Rule};
+use acpi_dump_walk::language::size;
 use acpi_dump_walk::out::Out;
 use acpi_dump_walk::walk::{Field, Show, walk_table};
 use std::alloc::{AllocError, Global};
@@ -86,7 +87,7 @@ impl Findings {
             if let Some((same, repeated, other)) = before
                 && same == *list
                 && repeated == *number
-                && let Some(id) = ids.get(*list as usize)
+                && let Some(id) = ids.get(size(*list))
             {
                 self.add(*id, *offset, &[repeated, other as u64]);
             }

@@ -8,7 +8,7 @@ use acpi_dump_input::entries::{Entry, own_signature};
 use acpi_dump_input::status::Status;
 use acpi_dump_walk::fault::Fault;
 use acpi_dump_walk::fields::unnamed_in;
-use acpi_dump_walk::language::{cut_at, is_chosen, next_word, number_of};
+use acpi_dump_walk::language::{cut_at, is_chosen, next_word, number_of, size};
 use acpi_dump_walk::walk::{Field, Show, walk_table};
 
 pub(crate) const RULES: &str = "
@@ -233,12 +233,12 @@ impl Show for Fields<'_> {
         if self.is_whole {
             let start = self.findings.text.length();
             fault.print(offset, &mut self.findings.text);
-            self.findings.end("table-malformed", offset as usize, start);
+            self.findings.end("table-malformed", size(offset), start);
         }
     }
 
     fn field(&mut self, shown: &Field<'_>) {
-        let offset = shown.offset as usize;
+        let offset = size(shown.offset);
         if self.has_codes
             && let Some(number) = unnamed_in(shown)
         {

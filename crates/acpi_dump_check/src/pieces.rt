@@ -2,6 +2,7 @@
 
 use acpi::sdt::field;
 use acpi_base::bytes::skip;
+use acpi_dump_walk::language::size;
 
 /// Where a piece has its length: at an offset, in this many bytes.
 pub(crate) type LengthPlace = (usize, usize);
@@ -36,7 +37,7 @@ impl<'a> Iterator for Pieces<'a> {
 
     fn next(&mut self) -> Option<(usize, &'a [u8])> {
         let (at, width) = self.place;
-        let length = field(self.rest, at, width.min(8)) as usize;
+        let length = size(field(self.rest, at, width.min(8)));
         if length <= at || self.rest.len() < length {
             return None;
         }

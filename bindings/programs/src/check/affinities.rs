@@ -7,6 +7,7 @@ use crate::check::numbers::{Kept, Numbers};
 use crate::check::pieces::Pieces;
 use crate::check::spans::{Span, overlaps};
 use crate::rattle::Vec;
+use crate::walk::language::size;
 use crate::walk::share::share_of;
 use zacpi::base::bytes::skip;
 use zacpi::base::entries::split_front;
@@ -95,7 +96,7 @@ fn add_processors(madt: &[u8], numbers: &mut Numbers) -> bool {
     for (offset, entry) in Pieces::of(madt, 44, (1, 1)) {
         let kind = field(entry, 0, 1);
         has_sapic |= kind == 7;
-        let least = MADT_GRAMMAR.layout.least_lengths.get(kind as usize);
+        let least = MADT_GRAMMAR.layout.least_lengths.get(size(kind));
         if entry.len() >= least.copied().unwrap_or(0) {
             numbers.add(&PROCESSORS, offset, entry);
         }
@@ -222,7 +223,7 @@ pub(crate) fn check_distances(slit: &[u8], findings: &mut Findings) {
         };
         let row = count.saturating_mul(from).saturating_add(44);
         if own != 10 {
-            let at = row.saturating_add(from) as usize;
+            let at = size(row.saturating_add(from));
             findings.add("slit-diagonal", at, &[from, own as u64]);
         }
         let (mut is_low, mut is_other) = (false, false);
@@ -230,7 +231,7 @@ pub(crate) fn check_distances(slit: &[u8], findings: &mut Findings) {
             let Some(distance) = distances.distance(from, to) else {
                 break;
             };
-            let (at, distance) = (row.saturating_add(to) as usize, distance as u64);
+            let (at, distance) = (size(row.saturating_add(to)), distance as u64);
             if distance < 10 && from != to && !is_low {
                 findings.add("slit-reserved-distance", at, &[to, distance, from]);
                 is_low = true;

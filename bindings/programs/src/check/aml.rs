@@ -14,6 +14,7 @@ use crate::check::numbers::Numbers;
 use crate::input::entries::{Entry, own_signature};
 use crate::input::status::Status;
 use crate::walk::fields::print_path;
+use crate::walk::language::size;
 use crate::walk::walk::has_aml;
 use names::Names;
 use zacpi::sdt::Signature;
@@ -112,7 +113,7 @@ fn add_table<'a>(
         findings.table = number;
         let start = findings.text.length();
         why.print(&mut findings.text);
-        findings.end("table-malformed", offset as usize, start);
+        findings.end("table-malformed", size(offset), start);
     }
 }
 

@@ -7,6 +7,7 @@ use crate::input::entries::{Entry, own_signature};
 use crate::input::judgement::{Finding, Judgement, Rule};
 use crate::rattle::Vec;
 use crate::rattle::alloc::{AllocError, Global};
+use crate::walk::language::size;
 use crate::walk::out::Out;
 use crate::walk::walk::{Field, Show, walk_table};
 use core::fmt::Display;
@@ -80,7 +81,7 @@ impl Findings {
             if let Some((same, repeated, other)) = before
                 && same == *list
                 && repeated == *number
-                && let Some(id) = ids.get(*list as usize)
+                && let Some(id) = ids.get(size(*list))
             {
                 self.add(*id, *offset, &[repeated, other as u64]);
             }

@@ -8,7 +8,7 @@ use crate::input::status::Status;
 use crate::rattle::Pieces;
 use crate::walk::fault::Fault;
 use crate::walk::fields::unnamed_in;
-use crate::walk::language::{cut_at, is_chosen, next_word, number_of};
+use crate::walk::language::{cut_at, is_chosen, next_word, number_of, size};
 use crate::walk::walk::{Field, Show, walk_table};
 use zacpi::AcpiError;
 use zacpi::sdt::field;
@@ -234,12 +234,12 @@ impl Show for Fields<'_> {
         if self.is_whole {
             let start = self.findings.text.length();
             fault.print(offset, &mut self.findings.text);
-            self.findings.end("table-malformed", offset as usize, start);
+            self.findings.end("table-malformed", size(offset), start);
         }
     }
 
     fn field(&mut self, shown: &Field<'_>) {
-        let offset = shown.offset as usize;
+        let offset = size(shown.offset);
         if self.has_codes
             && let Some(number) = unnamed_in(shown)
         {

@@ -11,6 +11,7 @@ use acpi::mcfg::McfgEntryIter;
 use acpi::sdt::{Signature, field};
 use acpi_dump_walk::aml::resources::{Descriptors, space_of};
 use acpi_dump_walk::fields::print_path;
+use acpi_dump_walk::language::size;
 
 /// Host bridges of PCI and PCI Express (section 5.6.7).
 const BRIDGES: [Id; 2] = [(0x030A_D041, b"PNP0A03"), (0x080A_D041, b"PNP0A08")];
@@ -126,8 +127,8 @@ pub(super) fn check_windows(names: &Names<'_>, findings: &mut Findings) {
             }
         }
         for (before, span) in overlaps(&mut spans, findings) {
-            if let Some(other) = names.all.get(before.owner as usize)
-                && let Some(it) = names.all.get(span.owner as usize)
+            if let Some(other) = names.all.get(size(before.owner))
+                && let Some(it) = names.all.get(size(span.owner))
                 && before.owner != span.owner
             {
                 findings.table = it.table;

@@ -4,6 +4,7 @@ use super::pairs::Key;
 use crate::outline::{BYTES, Part, Side};
 use acpi::PhysicalRecord;
 use acpi::sdt::SdtHeader;
+use acpi_dump_walk::language::size;
 use acpi_dump_walk::out::Out;
 use std::alloc::{AllocError, Global};
 
@@ -31,7 +32,7 @@ impl<'a> Known<'a> {
 
     /// Between which offsets of its table its own bytes are, if they are at its end: a method's code.
     pub(super) fn code(&self) -> (usize, usize) {
-        let end = self.offset.saturating_add(self.length) as usize;
+        let end = size(self.offset.saturating_add(self.length));
         (end.saturating_sub(self.own.len()), end)
     }
 

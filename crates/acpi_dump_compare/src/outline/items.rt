@@ -5,6 +5,7 @@ use acpi_dump_input::entries::Entry;
 use acpi_dump_walk::aml::{Ends, Object, Value};
 use acpi_dump_walk::fault::Fault;
 use acpi_dump_walk::fields::{print_hex, print_meaning, print_path, print_value};
+use acpi_dump_walk::language::size;
 use acpi_dump_walk::out::Out;
 use acpi_dump_walk::walk::{Field, Group, Show, ShowObjects, walk_with_objects};
 use std::alloc::{AllocError, Global};
@@ -243,7 +244,7 @@ impl ShowObjects for Items<'_> {
         self.values.text("the list ends: ");
         why.print(&mut self.values);
         self.add(offset, 0, MALFORMED, (start, start));
-        self.bytes(offset, self.table.get(offset as usize..).unwrap_or(&[]))
+        self.bytes(offset, self.table.get(size(offset)..).unwrap_or(&[]))
     }
 }
 

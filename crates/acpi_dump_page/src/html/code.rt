@@ -6,6 +6,7 @@ use acpi_dump_code::text::CodeText;
 use acpi_dump_code::{Extent, list_code};
 use acpi_dump_compare::compare::code::segments_of;
 use acpi_dump_compare::outline::Item;
+use acpi_dump_walk::language::size;
 use acpi_dump_walk::out::Out;
 use std::alloc::AllocError;
 
@@ -42,7 +43,7 @@ pub(super) fn print_code(sheet: &Sheet<'_>, item: &Item, out: &mut Out) {
         return;
     }
     let mut text = Out::new(out.allocator());
-    let places = (start as usize, end as usize);
+    let places = (size(start), size(end));
     if print_operations(sheet, item, places, &mut text).is_err() {
         return out.refuse();
     }

@@ -10,7 +10,7 @@ use super::values::print_digest;
 use acpi::platform::interrupt::{InterruptSourceOverride, Polarity, TriggerMode};
 use acpi::sdt::field;
 use acpi_base::model::IsaOverrides;
-use acpi_dump_walk::language::{next_word, number_at, number_of};
+use acpi_dump_walk::language::{next_word, number_at, number_of, size};
 use acpi_dump_walk::out::Out;
 use acpi_dump_walk::share::share_of;
 use std::alloc::AllocError;
@@ -86,7 +86,7 @@ fn tile_of(sheet: &Sheet<'_>, kind: u64, entry: &[u8], unit: usize) -> Option<u6
 /// Whether a processor whose flags are at an offset isn't enabled.
 fn is_off(entry: &[u8], offset: &str) -> bool {
     match number_of(offset) {
-        Some(flags) => number_at(entry, flags as usize, 4) & 1 == 0,
+        Some(flags) => number_at(entry, size(flags), 4) & 1 == 0,
         None => false,
     }
 }
@@ -207,8 +207,8 @@ fn print_title(sheet: &Sheet<'_>, kind: u64, number: u64, out: &mut Out) {
         return out.words(domain, &[number % 6, number]);
     }
     out.text("<figure class=\"tile\"><div><figcaption><h3>");
-    let title = TITLES.get(kind as usize).unwrap_or(&"");
-    print_line(sheet, number as usize, title, out);
+    let title = TITLES.get(size(kind)).unwrap_or(&"");
+    print_line(sheet, size(number), title, out);
     out.text("</h3>")
 }
 

@@ -4,6 +4,7 @@ use super::escape::Piece::{Decimal, Printed, Text};
 use super::escape::print_html;
 use super::sheet::{Sheet, classes_of};
 use super::tile::Tile;
+use acpi_dump_walk::language::size;
 use acpi_dump_walk::matrix::{Matrix, matrix_of};
 use acpi_dump_walk::out::Out;
 
@@ -93,7 +94,7 @@ fn add_value(
         Some(value) => {
             tile.text.words("%", &[value]);
             let steps = value.saturating_sub(least).saturating_mul(2) / least.max(1);
-            STEPS.get(steps as usize).copied().unwrap_or("k4")
+            STEPS.get(size(steps)).copied().unwrap_or("k4")
         }
         None => {
             tile.text.text("-");

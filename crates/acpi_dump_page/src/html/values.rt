@@ -5,7 +5,7 @@ use super::escape::{Piece, print_html, word_if};
 use super::ids;
 use acpi::sdt::Signature;
 use acpi_dump_compare::outline::{BYTES, Item, MALFORMED, Part, Side};
-use acpi_dump_walk::language::{next_word, number_at};
+use acpi_dump_walk::language::{next_word, number_at, size};
 use acpi_dump_walk::out::Out;
 
 /// From how many letters on a meaning is in a box of a few lines.
@@ -35,7 +35,7 @@ pub(super) fn structure_of(signature: Signature, side: Side<'_>, item: &Item) ->
     if !is_reference(signature, item.name) {
         return None;
     }
-    let offset = number_at(side.table, item.offset as usize, item.length as usize);
+    let offset = number_at(side.table, size(item.offset), size(item.length));
     let parts = side.parts;
     for part in parts {
         if part.offset == offset && offset > 0 {

@@ -2,6 +2,7 @@
 
 use super::facts::{Facts, Value};
 use acpi_dump_input::entries::{Entry, own_signature};
+use acpi_dump_walk::language::size;
 use acpi_dump_walk::matrix::{Matrix, matrix_of};
 use acpi_dump_walk::share::{MEMORY, Share, shares_of};
 use acpi_dump_walk::walk::{Group, Show, walk_table};
@@ -17,8 +18,8 @@ struct Matrices<'a> {
 
 impl Show for Matrices<'_> {
     fn begin(&mut self, group: &Group) {
-        let start = group.offset as usize;
-        let end = start.saturating_add(group.length as usize);
+        let start = size(group.offset);
+        let end = start.saturating_add(size(group.length));
         if group.kind == Some(1)
             && let Some(matrix) = matrix_of(self.table.get(start..end).unwrap_or(&[]))
         {

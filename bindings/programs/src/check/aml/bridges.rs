@@ -11,6 +11,7 @@ use crate::check::spans::{Span, overlaps};
 use crate::rattle::Vec;
 use crate::walk::aml::resources::{Descriptors, space_of};
 use crate::walk::fields::print_path;
+use crate::walk::language::size;
 use zacpi::mcfg::McfgEntryIter;
 use zacpi::sdt::{Signature, field};
 
@@ -128,8 +129,8 @@ pub(super) fn check_windows(names: &Names<'_>, findings: &mut Findings) {
             }
         }
         for (before, span) in overlaps(&mut spans, findings) {
-            if let Some(other) = names.all.get(before.owner as usize)
-                && let Some(it) = names.all.get(span.owner as usize)
+            if let Some(other) = names.all.get(size(before.owner))
+                && let Some(it) = names.all.get(size(span.owner))
                 && before.owner != span.owner
             {
                 findings.table = it.table;

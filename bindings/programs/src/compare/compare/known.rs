@@ -5,6 +5,7 @@ use super::pairs::Key;
 use crate::compare::outline::{BYTES, Part, Side};
 use crate::rattle::Vec;
 use crate::rattle::alloc::{AllocError, Global};
+use crate::walk::language::size;
 use crate::walk::out::Out;
 use zacpi::PhysicalRecord;
 use zacpi::sdt::SdtHeader;
@@ -33,7 +34,7 @@ impl<'a> Known<'a> {
 
     /// Between which offsets of its table its own bytes are, if they are at its end: a method's code.
     pub(super) fn code(&self) -> (usize, usize) {
-        let end = self.offset.saturating_add(self.length) as usize;
+        let end = size(self.offset.saturating_add(self.length));
         (end.saturating_sub(self.own.len()), end)
     }
 

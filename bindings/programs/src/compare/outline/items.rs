@@ -9,6 +9,7 @@ use crate::rattle::alloc::{AllocError, Global};
 use crate::walk::aml::{Ends, Object, Value};
 use crate::walk::fault::Fault;
 use crate::walk::fields::{print_hex, print_meaning, print_path, print_value};
+use crate::walk::language::size;
 use crate::walk::out::Out;
 use crate::walk::walk::{Field, Group, Show, ShowObjects, walk_with_objects};
 
@@ -227,7 +228,7 @@ impl ShowObjects for Items<'_> {
         self.values.text("the list ends: ");
         why.print(&mut self.values);
         self.add(offset, 0, MALFORMED, (start, start));
-        self.bytes(offset, self.table.get(offset as usize..).unwrap_or(&[]))
+        self.bytes(offset, self.table.get(size(offset)..).unwrap_or(&[]))
     }
 }
 

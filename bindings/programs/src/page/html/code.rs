@@ -9,6 +9,7 @@ use crate::compare::compare::code::segments_of;
 use crate::compare::outline::Item;
 use crate::rattle::Pieces;
 use crate::rattle::alloc::AllocError;
+use crate::walk::language::size;
 use crate::walk::out::Out;
 
 /// What is before the operations, and after them.
@@ -38,7 +39,7 @@ pub(super) fn print_code(sheet: &Sheet<'_>, item: &Item, out: &mut Out) {
         return;
     }
     let mut text = Out::new(out.allocator());
-    let places = (start as usize, end as usize);
+    let places = (size(start), size(end));
     if print_operations(sheet, item, places, &mut text).is_err() {
         return out.refuse();
     }

@@ -5,6 +5,7 @@ use super::escape::Piece::{Decimal, Printed, Text};
 use super::escape::print_html;
 use super::sheet::{Sheet, classes_of};
 use super::tile::Tile;
+use crate::walk::language::size;
 use crate::walk::matrix::{Matrix, matrix_of};
 use crate::walk::out::Out;
 
@@ -83,7 +84,7 @@ fn add_value(sheet: &Sheet<'_>, offset: u64, matrix: Matrix<'_>, place: (usize, 
         Some(value) => {
             tile.text.words("%", &[value]);
             let steps = value.saturating_sub(least).saturating_mul(2) / least.max(1);
-            STEPS.get(steps as usize).copied().unwrap_or("k4")
+            STEPS.get(size(steps)).copied().unwrap_or("k4")
         }
         None => {
             tile.text.text("-");

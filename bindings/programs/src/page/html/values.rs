@@ -6,7 +6,7 @@ use super::escape::{Piece, print_html, word_if};
 use super::ids;
 use crate::compare::outline::{BYTES, Item, MALFORMED, Part, Side};
 use crate::rattle::Pieces;
-use crate::walk::language::{next_word, number_at};
+use crate::walk::language::{next_word, number_at, size};
 use crate::walk::out::Out;
 use zacpi::sdt::Signature;
 
@@ -37,7 +37,7 @@ pub(super) fn structure_of(signature: Signature, side: Side<'_>, item: &Item) ->
     if !is_reference(signature, item.name) {
         return None;
     }
-    let offset = number_at(side.table, item.offset as usize, item.length as usize);
+    let offset = number_at(side.table, size(item.offset), size(item.length));
     let parts = side.parts;
     for part in parts {
         if part.offset == offset && offset > 0 {
