@@ -12,6 +12,7 @@ mod sums;
 
 use crate::arguments::ArgMatches;
 use crate::dump::options::command;
+use crate::rattle::HostRuntime;
 use crate::rattle::alloc::Global;
 use machines::{Machine, paths_of, read_machine};
 use progress::Progress;
@@ -134,7 +135,7 @@ fn run(matches: &ArgMatches<'_>) -> u8 {
     }
     let request = Request { base: matches.get_str("base"), ignored, most };
     let style = if matches.get_flag("json") { Style::Json } else { Style::Text };
-    let mut out = std::io::BufWriter::new(std::io::stdout());
+    let mut out = std::io::BufWriter::new(HostRuntime::new().stdout());
     let printed = gather_and_print(matches, &request, style, &mut out);
     match printed.and_then(|status| out.flush().map(|()| status)) {
         Ok(status) => status,
