@@ -121,6 +121,7 @@ pub struct Processor {
 
 /// `struct zacpi_platform_lists`.
 #[repr(C)]
+#[derive(Debug)]
 pub struct PlatformLists<'a> {
     /// The processors.
     pub processors: &'a mut [Processor],

@@ -20,7 +20,7 @@ pub struct UnitSource {
 }
 
 /// The units in a DMAR's bytes (chapter 8). It needs no handler.
-#[derive(Clone, Copy)]
+#[derive(Clone, Copy, Debug)]
 pub struct DmarUnits<'a> {
     table: &'a [u8],
 }

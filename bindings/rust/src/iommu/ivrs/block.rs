@@ -109,7 +109,7 @@ impl Ivmd {
 }
 
 /// A block of an IVRS (section 5.2).
-#[derive(Clone, Copy)]
+#[derive(Clone, Copy, Debug)]
 pub struct IvrsBlock<'a> {
     bytes: &'a [u8],
 }
@@ -200,7 +200,7 @@ impl<'a> IvrsBlock<'a> {
 }
 
 /// The blocks of an IVRS.
-#[derive(Clone, Copy)]
+#[derive(Clone, Copy, Debug)]
 pub struct Blocks;
 
 impl<'a> PieceKind<'a> for Blocks {

@@ -11,7 +11,7 @@ use crate::base::bytes::has_bit;
 use crate::base::entries::{EntryLayout, Grammar, Place, Width};
 
 /// A processor, by the id that entries of a SRAT name it by.
-#[derive(Clone, Copy)]
+#[derive(Clone, Copy, Debug)]
 pub(super) enum ProcessorId {
     /// The id of its local APIC or x2APIC (sections 5.2.16.1 and 5.2.16.3).
     Apic(u32),

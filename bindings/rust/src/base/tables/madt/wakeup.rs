@@ -52,7 +52,7 @@ impl TryFrom<u16> for MpProtectedModeWakeupCommand {
 
 /// The fields of the Multiprocessor Wakeup Mailbox (section 5.2.12.19). No function of this crate reads or
 /// writes one.
-#[derive(Clone, Copy)]
+#[derive(Clone, Copy, Debug)]
 #[non_exhaustive]
 pub struct MultiprocessorWakeupMailbox {
     /// Command: what the firmware is to do, by its number.
