@@ -5,7 +5,7 @@
 #                           through a register
 #   make check              calls of it by programs of examples/c and tests/c; elsewhere RUN=qemu-arm LDFLAGS=-static
 #   make install            the headers, zacpi.c, zacpi-subset, both archives, what leads pkg-config and CMake to them,
-#                           examples, manual pages of calls
+#                           examples, manual pages
 #   make acpi_dump          out/acpi_dump, acpi_view and acpi_pack, the programs, by cargo, for TARGET if one is named
 #   make stick              out/stick.img, which shows and saves a machine's tables without an operating system, by
 #                           clang, lld, mtools and python3 (docs/TESTING.md)
@@ -57,7 +57,7 @@ $(OUT)/acpi_dump: $(wildcard Cargo.* */*/Cargo.toml) $(shell find bindings/*/src
 	@$(CARGO) --version 2>/dev/null | awk -v least=$(RUST) '{ split($$2, has, "."); split(least, needs, "."); \
 	    new = has[1] > needs[1] || has[1] == needs[1] && has[2] + 0 >= needs[2] + 0 } END { exit !new }' || \
 	    { echo "the programs need cargo $(RUST) or later, which isn't there: https://rustup.rs has it" >&2; exit 1; }
-	$(CARGO) build --release -p acpi_dump -p acpi_programs --target-dir $(OUT)/cargo \
+	@CARGO="$(CARGO)" scripts/lib/cargo $(OUT) --release \
 	    $(if $(TARGET),--target $(TARGET) --no-default-features --features acpi_dump/fleet)
 	cp $(NAMES:%=$(OUT)/cargo/$(if $(TARGET),$(TARGET)/)release/%) $(OUT)
 
@@ -84,7 +84,7 @@ check: $(OUT)/libzacpi.a
 # What a user includes, compiles, links and looks for. The folder can be moved as a whole.
 install: $(OUT)/libzacpi.a $(OUT)/libzacpi-kernel.a
 	mkdir -p $(DESTDIR)$(PREFIX)/include $(DESTDIR)$(PREFIX)/bin $(DESTDIR)$(LIBDIR)/pkgconfig \
-	    $(DESTDIR)$(LIBDIR)/cmake/zacpi $(DOC)/examples $(SHARE)/man/man3
+	    $(DESTDIR)$(LIBDIR)/cmake/zacpi $(DOC)/examples $(SHARE)/man/man1 $(SHARE)/man/man3
 	$(INSTALL) include/*.h dist/zacpi.c $(DESTDIR)$(PREFIX)/include
 	install -m 755 scripts/zacpi-subset $(DESTDIR)$(PREFIX)/bin
 	$(INSTALL) $(OUT)/libzacpi.a $(OUT)/libzacpi-kernel.a $(DESTDIR)$(LIBDIR)
@@ -95,6 +95,7 @@ install: $(OUT)/libzacpi.a $(OUT)/libzacpi-kernel.a
 	    scripts/zacpi-config-version.cmake.in >$(DESTDIR)$(LIBDIR)/cmake/zacpi/zacpi-config-version.cmake
 	$(INSTALL) LICENSE dist/THIRD-PARTY docs/C.md $(DOC)
 	$(INSTALL) examples/c/*.[ch] $(DOC)/examples
+	$(INSTALL) docs/zacpi-subset.1 $(SHARE)/man/man1
 	$(INSTALL) docs/man3/*.3 $(SHARE)/man/man3
 # Of these in $(PROGRAMS) the ones that are there. Where that is $(OUT), they are made first.
 install-programs: $(filter $(OUT)/acpi_dump,$(PROGRAMS)/acpi_dump)
@@ -112,7 +113,8 @@ uninstall:
 	rm -rf $(DESTDIR)$(LIBDIR)/cmake/zacpi $(DOC)
 	rm -f $(addprefix $(DESTDIR)$(LIBDIR)/,libzacpi.a libzacpi-kernel.a pkgconfig/zacpi.pc pkgconfig/zacpi-kernel.pc) \
 	    $(addprefix $(DESTDIR)$(PREFIX)/,$(wildcard include/*.h) include/zacpi.c bin/zacpi-subset $(NAMES:%=bin/%)) \
-	    $(NAMES:%=$(SHARE)/man/man1/%.1) $(patsubst docs/%,$(SHARE)/man/%,$(wildcard docs/man3/*)) \
+	    $(patsubst %,$(SHARE)/man/man1/%.1,$(NAMES) zacpi-subset) \
+	    $(patsubst docs/%,$(SHARE)/man/%,$(wildcard docs/man3/*)) \
 	    $(SHARE)/bash-completion/completions/acpi_dump $(SHARE)/zsh/site-functions/_acpi_dump \
 	    $(SHARE)/fish/vendor_completions.d/acpi_dump.fish
 clean:

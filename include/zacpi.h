@@ -42,7 +42,11 @@
  * (Length, SCI_INT) are from the document that lays the table out. A field without a comment is
  * what its name means; a yes-or-no field is 0 or 1. Addresses are physical, and lengths in bytes;
  * memory ends at the address after its last byte. Bytes past the end of a table or entry are read
- * as 0, and a field in every Revision of its table. Comments name the fields that differ. */
+ * as 0, and a field in every Revision of its table. Comments name the fields that differ.
+ *
+ * Reserved fields are 0 in what a call returns, and aren't looked at in what it is passed. In later
+ * versions they may be fields of a record that callers only read, and an enum may contain more
+ * numbers. No other byte of a record is padding, but the half that a pointer of 32 bits leaves. */
 #ifndef ZACPI_H
 #define ZACPI_H
 #include <stddef.h>
@@ -113,7 +117,7 @@ extern const uint8_t zacpi_needs_kernel_archive;
 
 /* Errors --------------------------------------------------------------------------------------- */
 
-typedef uint32_t zacpi_status; /* of enum zacpi_status_code; numbers stay */
+typedef uint32_t zacpi_status; /* of enum zacpi_status_code; numbers stay, others may come */
 
 enum zacpi_status_code {
     ZACPI_OK = 0,
@@ -340,9 +344,11 @@ struct zacpi_root {
     uint32_t length;
     uint8_t revision;      /* of the RSDP; 0 if opened at an RSDT, 2 if at an XSDT */
     uint8_t pointer_width; /* 4 for an RSDT, 8 for an XSDT */
+    uint8_t reserved_1[2]; /* 0 */
     zacpi_u64 rsdp_address; /* 0 if opened at a root table, and so is the length */
     uint32_t rsdp_length;  /* Length; at revision 0, which lacks it, 20, though 36 bytes have to be
                             * mapped there too */
+    uint8_t reserved_2[4]; /* 0 */
 };
 struct zacpi_rsdp { /* Root System Description Pointer (RSDP), section 5.2.5.3 */
     zacpi_u64 address;
@@ -350,20 +356,25 @@ struct zacpi_rsdp { /* Root System Description Pointer (RSDP), section 5.2.5.3 *
     uint32_t rsdt_address;
     uint32_t length;        /* as rsdp_length of struct zacpi_root */
     uint8_t revision, oem_id[6];
+    uint8_t reserved; /* 0 */
 };
 struct zacpi_table {
     zacpi_u64 address;
     uint32_t length;
-    uint8_t signature[4], revision, oem_id[6], oem_table_id[8];
+    struct zacpi_signature signature;
+    uint8_t revision, oem_id[6], oem_table_id[8];
+    uint8_t reserved_1; /* 0 */
     uint32_t oem_revision;
     uint8_t creator_id[4];
     uint32_t creator_revision;
+    uint8_t reserved_2[4]; /* 0 */
 };
 struct zacpi_member { /* what a pointer of a root table points to */
     struct zacpi_table table; /* zeros but for the address unless has_header */
     zacpi_status status;      /* 0, or, if zacpi_list_tables skips it, its first error in
                                * zacpi_open's order that `accept` doesn't take */
     uint8_t has_header;       /* 0: the 36 bytes of a header aren't mapped there */
+    uint8_t reserved[3]; /* 0 */
 };
 struct zacpi_fault {
     zacpi_u64 address;
@@ -371,6 +382,7 @@ struct zacpi_fault {
                           * ZACPI_SDT_INVALID_SIGNATURE. Of several, the first in zacpi_open's order
                           * that `accept` doesn't take, or, if it takes all, the first */
     uint8_t accepted;    /* 1: it isn't skipped, thanks to `accept` of the source */
+    uint8_t reserved[3]; /* 0 */
 };
 /* How the entries of a table are laid out. zacpi_tables.h defines the walk of each table with such
  * entries, as ZACPI_WALK_APIC; ZACPI_WALK_IORT(first) and others take the value of one of its
@@ -389,6 +401,7 @@ struct zacpi_aml_table {
     zacpi_u64 address; /* of the byte after the table's header */
     uint32_t length;  /* Length less 36 */
     uint8_t revision; /* of a DSDT: below 2 integers have 32 bits, else 64 */
+    uint8_t reserved[3]; /* 0 */
     zacpi_u64 table_address;
 };
 
@@ -540,6 +553,7 @@ struct zacpi_generic_address { /* Generic Address Structure, section 5.2.3.2 */
     uint8_t space;       /* of enum zacpi_address_space */
     uint8_t bit_width, bit_offset;
     uint8_t access_size; /* 0 unspecified, 1 one byte, 2 two, 3 four, 4 eight */
+    uint8_t reserved[4]; /* 0 */
 };
 enum zacpi_address_space { /* section 5.2.3.2 */
     ZACPI_SPACE_SYSTEM_MEMORY = 0, ZACPI_SPACE_SYSTEM_IO = 1, ZACPI_SPACE_PCI_CONFIGURATION = 2,
@@ -551,11 +565,13 @@ enum zacpi_address_space { /* section 5.2.3.2 */
 struct zacpi_register {
     struct zacpi_generic_address at; /* zeros unless it is present */
     uint8_t present;                 /* 0: none. 1: it is `at`. 2: its address is an error */
+    uint8_t reserved[7]; /* 0 */
 };
 struct zacpi_pm_timer {
     struct zacpi_generic_address base; /* X_PM_TMR_BLK or PM_TMR_BLK */
     uint8_t present;                   /* 0: there is none, and all else is 0 */
     uint8_t is_32_bit;                 /* TMR_VAL_EXT: it counts in 32 bits, else in 24 */
+    uint8_t reserved[6]; /* 0 */
 };
 struct zacpi_hpet_info {
     zacpi_u64 base_address;
@@ -578,6 +594,7 @@ struct zacpi_boot_graphic {
                            * 90, 180 or 270 */
     uint8_t displayed;    /* bit 0 of Status: it is still on the screen */
     uint8_t image_type;   /* 0: a bitmap. 1: another code, which is reserved */
+    uint8_t reserved[4]; /* 0 */
 };
 
 struct zacpi_gpe_block { /* general purpose events (sections 4.8.4.1 and 5.2.9), by the length in
@@ -588,6 +605,7 @@ struct zacpi_gpe_block { /* general purpose events (sections 4.8.4.1 and 5.2.9),
                           * bits */
     uint8_t present;     /* 0: none, also if GPEn_BLK_LEN is 0. 1: there is one. 2: its Address
                           * Space ID is reserved; Access Size isn't looked at */
+    uint8_t reserved[5]; /* 0 */
 };
 /* FADT, section 5.2.9. A field's X_ field (X_DSDT), where there is one, counts unless it is 0, or
  * the Address in it; it is read as 0 below revision 2, and if the table lacks one of its bytes.
@@ -630,6 +648,7 @@ struct zacpi_fixed_hardware {
     uint8_t day_alarm, month_alarm, century; /* registers of the clock. 0: none */
     uint8_t reset_value, revision;
     uint8_t minor_revision;                  /* FADT Minor Version: errata in bits 4 to 7 */
+    uint8_t reserved[3]; /* 0 */
     zacpi_u64 hypervisor_id;                 /* Hypervisor Vendor Identity; 0 below revision 6 */
 };
 struct zacpi_facs { /* section 5.2.10 */
@@ -638,6 +657,7 @@ struct zacpi_facs { /* section 5.2.10 */
     uint32_t length, hardware_signature, waking_vector;
     uint32_t flags;            /* bit 0 S4BIOS_F, 1 64BIT_WAKE_SUPPORTED_F */
     uint8_t version;
+    uint8_t reserved[7]; /* 0 */
 };
 enum zacpi_fadt_flag { /* Flags, section 5.2.9 */
     ZACPI_FADT_WBINVD = 0x1, ZACPI_FADT_WBINVD_FLUSH = 0x2, ZACPI_FADT_PROC_C1 = 0x4,
@@ -674,13 +694,14 @@ struct zacpi_console { /* SPCR, whose layout and names of fields are Microsoft's
     uint32_t pci_flags;                    /* bit 0: neither switch the device off nor look for its
                                             * like */
     uint16_t pci_device_id, pci_vendor_id; /* 0xffff: no PCI device */
-    uint8_t interface;                     /* of enum zacpi_console_type */
+    uint8_t interface_type;                /* of enum zacpi_console_type */
     uint8_t irq;                           /* on the 8259s; 0 unless it is there */
     uint8_t has_irq;                       /* bit 0 of Interrupt Type is set */
     uint8_t has_global_system_interrupt;   /* one of bits 1 to 4 of Interrupt Type is set */
     uint8_t has_baud_rate;
     uint8_t parity, stop_bits;             /* 0: no parity. 1: one stop bit */
     uint8_t pci_segment, pci_bus, pci_device, pci_function;
+    uint8_t reserved; /* 0 */
 };
 
 enum zacpi_console_type {
@@ -747,10 +768,12 @@ struct zacpi_step {
                                * wait: until the bits of `mask` are as in `value` */
     uint8_t width;            /* of one access, in bits: 8 or 16 */
     uint8_t kind;             /* of enum zacpi_step_kind */
+    uint8_t reserved[6]; /* 0 */
 };
 struct zacpi_plan { /* steps to take in order; the caller writes, the library touches no port */
     struct zacpi_step steps[8]; /* zeros from `count` on */
     uint32_t count;
+    uint8_t reserved[4]; /* 0 */
 };
 struct zacpi_sleep_types {
     uint8_t a, b; /* SLP_TYPa and SLP_TYPb */
@@ -839,12 +862,14 @@ struct zacpi_pci_region { /* an allocation of the MCFG (PCI Firmware Specificati
     zacpi_u64 base_address; /* where bus 0 of the segment group would be */
     uint16_t segment_group;
     uint8_t first_bus, last_bus;
+    uint8_t reserved[4]; /* 0 */
 };
 struct zacpi_ecam_range {
     zacpi_u64 address, length; /* zeros if it isn't present */
     uint16_t segment_group;
     uint8_t present;          /* 0: the last bus is below the first, or the range ends at 2^64 or
                                * above */
+    uint8_t reserved[5]; /* 0 */
 };
 
 /* Lists the regions of PCI configuration space of the MCFG: 16 bytes for each from byte 44 on;
@@ -895,16 +920,19 @@ struct zacpi_interrupt_model {
     zacpi_size io_apics, overrides, nmi_sources, nmi_lines, processors;
     uint8_t known;         /* 1 if a MADT lists an entry of Types 0 to 5, 9 or 0xa; else all is 0 */
     uint8_t also_has_8259; /* PCAT_COMPAT, bit 0 of Flags: there is a pair of 8259s to be masked */
+    uint8_t reserved[6]; /* 0 */
 };
 struct zacpi_local_apic {
     zacpi_u64 address;     /* as in struct zacpi_interrupt_model, by the entries up to where none
                             * begins */
     uint8_t also_has_8259; /* PCAT_COMPAT, bit 0 of Flags */
+    uint8_t reserved[7]; /* 0 */
 };
 struct zacpi_io_apic { /* I/O APIC, section 5.2.12.3 */
     uint32_t address;
     uint32_t global_system_interrupt_base; /* the interrupt of its first pin */
     uint8_t id;
+    uint8_t reserved[3]; /* 0 */
 };
 struct zacpi_interrupt_source_override { /* Interrupt Source Override, section 5.2.12.5 */
     uint32_t global_system_interrupt;
@@ -915,6 +943,7 @@ struct zacpi_interrupt_source_override { /* Interrupt Source Override, section 5
 struct zacpi_nmi_source { /* NMI Source, section 5.2.12.6 */
     uint32_t global_system_interrupt;
     uint8_t polarity, trigger;
+    uint8_t reserved[2]; /* 0 */
 };
 struct zacpi_nmi_line { /* Local APIC NMI and Local x2APIC NMI, sections 5.2.12.7 and 5.2.12.13 */
     uint32_t processor_uid; /* 0 if `of_all` */
@@ -992,6 +1021,7 @@ struct zacpi_entry_fault {
     zacpi_u64 address;   /* of the entry, or where none begins */
     uint32_t status;     /* its error */
     uint16_t entry_type; /* Type of the entry, or there; 0 at the table's end */
+    uint8_t reserved[2]; /* 0 */
 };
 /* Lists the entries with a ZACPI_MADT_ error (of several the least) or ZACPI_SHORT_RISCV_ENTRY, and
  * last, if bytes are left, where none begins, with ZACPI_MADT_INVALID_ENTRY_LENGTH. Only that one
@@ -1028,6 +1058,7 @@ ZACPI_STATUS zacpi_get_platform(const struct zacpi_source *source,
 struct zacpi_interrupt {
     uint32_t global_system_interrupt;
     uint8_t polarity, trigger; /* never as the bus has it */
+    uint8_t reserved[2]; /* 0 */
 };
 struct zacpi_io_apic_pin {
     struct zacpi_io_apic io_apic;
@@ -1066,6 +1097,7 @@ struct zacpi_isa_route {
     struct zacpi_io_apic_pin pin;     /* what zacpi_get_io_apic_pin returns for it, or zeros */
     uint8_t present;                  /* 0: zacpi_get_isa_interrupt fails */
     uint8_t has_pin;                  /* 0: it isn't present, or zacpi_get_io_apic_pin fails */
+    uint8_t reserved[2]; /* 0 */
 };
 struct zacpi_isa_interrupts {
     struct zacpi_isa_route routes[16]; /* item n is irq n */
@@ -1086,6 +1118,7 @@ struct zacpi_gic_distributor { /* GIC Distributor (GICD), section 5.2.12.15 */
     uint32_t id;
     uint32_t system_vector_base; /* reserved, and kept as it is */
     uint8_t version;             /* 1 to 4; 0: the hardware shows it */
+    uint8_t reserved[7]; /* 0 */
 };
 struct zacpi_gic_cpu_interface { /* GIC CPU Interface (GICC), section 5.2.12.14. An address or
                                   * interrupt of 0: none. Flags: bit 0 is_enabled, 1
@@ -1103,11 +1136,13 @@ struct zacpi_gic_cpu_interface { /* GIC CPU Interface (GICC), section 5.2.12.14.
                                         * the entry lacks one of its bytes */
     uint8_t is_enabled, is_online_capable, performance_trigger, maintenance_trigger;
     uint8_t efficiency_class;          /* Processor Power Efficiency Class: lower uses less power */
+    uint8_t reserved[3]; /* 0 */
 };
 struct zacpi_gic_translation_service { /* GIC Interrupt Translation Service (ITS), section
                                         * 5.2.12.18 */
     zacpi_u64 address;
     uint32_t id;
+    uint8_t reserved[4]; /* 0 */
 };
 struct zacpi_gic_msi_frame { /* GIC MSI Frame, section 5.2.12.16 */
     zacpi_u64 address;
@@ -1115,6 +1150,7 @@ struct zacpi_gic_msi_frame { /* GIC MSI Frame, section 5.2.12.16 */
     uint16_t spi_base, spi_count; /* zeros if has_spis is 0 */
     uint8_t has_spis;             /* SPI Count/Base Select, bit 0 of Flags. 0: the frame's registers
                                    * show them */
+    uint8_t reserved[7]; /* 0 */
 };
 
 /* Returns the distributor of the first GICD. Fails with an opening error, ZACPI_TABLE_MISSING
@@ -1168,6 +1204,7 @@ struct zacpi_arm_timers {
     struct zacpi_arm_timer secure_el1, non_secure_el1, virtual_el1, el2, virtual_el2;
     /* 1: zacpi_list_gtdt_faults returns an item. */
     uint8_t platform_timers_malformed;
+    uint8_t reserved[7]; /* 0 */
 };
 struct zacpi_gt_frame { /* a frame of a GT Block, section 5.2.24.1.1. GTx Common Flags: bit 0
                          * is_secure, 1 is_always_on */
@@ -1179,12 +1216,14 @@ struct zacpi_gt_frame { /* a frame of a GT Block, section 5.2.24.1.1. GTx Common
     uint8_t number; /* in the block, from 0 to 7 */
     uint8_t physical_polarity, physical_trigger, virtual_polarity, virtual_trigger, is_secure,
         is_always_on;
+    uint8_t reserved; /* 0 */
 };
 struct zacpi_watchdog { /* Arm Generic Watchdog, section 5.2.24.1.2. Watchdog Timer Flags: bit 0
                          * trigger, 1 polarity, 2 is_secure */
     zacpi_u64 refresh_frame, control_frame;
     uint32_t interrupt;
     uint8_t polarity, trigger, is_secure;
+    uint8_t reserved; /* 0 */
 };
 
 /* Returns the timers of every processor. Fails with an opening error, or ZACPI_TABLE_MISSING
@@ -1223,12 +1262,14 @@ struct zacpi_rintc { /* RISC-V Interrupt Controller, Type 0x18: a hart. An entry
                                                 * to 15 the context or the IDC in it */
     uint32_t imsic_size;
     uint8_t version;
+    uint8_t reserved[7]; /* 0 */
 };
 struct zacpi_imsic { /* Incoming MSI Controller, Type 0x19: what the IMSICs of all harts share */
     uint32_t flags;
     uint16_t supervisor_identities, guest_identities;
     uint8_t guest_index_bits, hart_index_bits, group_index_bits, group_index_shift;
     uint8_t version;
+    uint8_t reserved[3]; /* 0 */
 };
 struct zacpi_aplic { /* Advanced Platform Level Interrupt Controller, Type 0x1a */
     zacpi_u64 address;
@@ -1237,6 +1278,7 @@ struct zacpi_aplic { /* Advanced Platform Level Interrupt Controller, Type 0x1a 
     uint16_t idc_count;   /* Number of IDCs. 0: it sends messages to the IMSICs */
     uint16_t source_count;
     uint8_t id, version;
+    uint8_t reserved[6]; /* 0 */
 };
 struct zacpi_plic { /* Platform Level Interrupt Controller, Type 0x1b */
     zacpi_u64 address;
@@ -1244,6 +1286,7 @@ struct zacpi_plic { /* Platform Level Interrupt Controller, Type 0x1b */
     uint32_t flags, global_system_interrupt_base, size;
     uint16_t source_count, max_priority;
     uint8_t id, version;
+    uint8_t reserved[6]; /* 0 */
 };
 
 /* Each lists the MADT's entries of one Type, up to where none begins, since Length is above the
@@ -1272,6 +1315,7 @@ struct zacpi_memory_affinity { /* Memory Affinity, section 5.2.16.2. Flags: bit 
     zacpi_u64 length; /* at least one */
     uint32_t domain; /* Proximity Domain; below revision 2 its lowest byte */
     uint8_t is_hot_pluggable, is_non_volatile;
+    uint8_t reserved[2]; /* 0 */
 };
 struct zacpi_processor_affinity { /* Processor Local APIC, Processor Local x2APIC and GICC Affinity,
                                    * sections 5.2.16.1, 5.2.16.3 and 5.2.16.4 */
@@ -1279,6 +1323,7 @@ struct zacpi_processor_affinity { /* Processor Local APIC, Processor Local x2API
     uint32_t domain; /* Proximity Domain; of Type 0 below revision 2 its lowest byte */
     uint32_t clock_domain;
     uint8_t entry_type; /* 0, 2 or 3 */
+    uint8_t reserved[3]; /* 0 */
 };
 struct zacpi_generic_initiator { /* Generic Initiator Affinity, section 5.2.16.6: a device that
                                   * accesses memory by itself */
@@ -1287,6 +1332,7 @@ struct zacpi_generic_initiator { /* Generic Initiator Affinity, section 5.2.16.6
     uint8_t handle_type; /* Device Handle Type: what `handle` contains. 0: _HID in 8 bytes, _UID in
                           * 4. 1: PCI Segment in 2 bytes, PCI BDF Number in 2 */
     uint8_t handle[16];  /* Device Handle */
+    uint8_t reserved[2]; /* 0 */
 };
 struct zacpi_its_affinity { /* GIC Interrupt Translation Service (ITS) Affinity, section 5.2.16.5 */
     uint32_t domain;
@@ -1296,6 +1342,7 @@ struct zacpi_localities {
     zacpi_u64 localities; /* Number of System Localities: rows of the matrix, from 0 on */
     uint8_t is_sane;     /* 1: there are localities, the table lists all distances, each locality
                           * is at 10 from itself, and at more than 10 from others */
+    uint8_t reserved[7]; /* 0 */
 };
 
 /* Lists the memory that the SRAT puts into domains: its Memory Affinity entries that are enabled,
@@ -1304,6 +1351,11 @@ struct zacpi_localities {
 ZACPI_STATUS zacpi_list_memory_affinities(const struct zacpi_source *source,
                                           struct zacpi_memory_affinity *out, size_t capacity,
                                           size_t *count, struct zacpi_signature *signature);
+/* Lists the items of zacpi_list_memory_affinities from the `from`-th on, from 0 on; `count` is of
+ * all. Fails with an opening error, or ZACPI_TABLE_MISSING "SRAT". */
+ZACPI_STATUS zacpi_list_memory_affinities_from(const struct zacpi_source *source, size_t from,
+                                               struct zacpi_memory_affinity *out, size_t capacity,
+                                               size_t *count, struct zacpi_signature *signature);
 /* Lists the processors that the SRAT puts into domains, those that the MADT lacks too: its entries
  * of Types 0, 2 and 3 that are enabled (bit 0 of Flags), up to where no entry begins; of several
  * for one processor the last counts. Fails with an opening error, or ZACPI_TABLE_MISSING "SRAT". */
@@ -1376,6 +1428,7 @@ enum zacpi_dmar_flag { /* Flags of the DMAR, section 8.1 */
 struct zacpi_dmar_flags {
     uint16_t address_bits; /* Host Address Width plus 1 */
     uint8_t flags;         /* of enum zacpi_dmar_flag */
+    uint8_t reserved; /* 0 */
 };
 struct zacpi_hop { /* a step of Path, from a bus to a device on it */
     uint8_t device, function;
@@ -1386,23 +1439,27 @@ struct zacpi_dmar_unit { /* DMA Remapping Hardware Unit Definition (DRHD), secti
     uint16_t segment;
     uint8_t includes_pci_all; /* bit 0 of Flags */
     uint8_t flags, size;
+    uint8_t reserved[3]; /* 0 */
 };
 struct zacpi_dmar_scope {
     zacpi_size path_length; /* how many hops Path has; `path` lists the first 16, then zeros */
     uint8_t scope_type, flags, enumeration_id;
     uint8_t bus;        /* Start Bus Number */
     struct zacpi_hop path[16];
+    uint8_t reserved[4]; /* 0 */
 };
 struct zacpi_dmar_source { /* how a unit knows a device that sends interrupts, section 8.3.1 */
     struct zacpi_dmar_unit unit;
     uint8_t bus;          /* Start Bus Number; with a Path of one hop, bus and hop are the id */
     struct zacpi_hop hop; /* the last one of Path, or zeros */
     uint8_t has_hop;
+    uint8_t reserved[4]; /* 0 */
 };
 struct zacpi_dmar_reserved { /* Reserved Memory Region Reporting (RMRR), section 8.4 */
     zacpi_u64 base; /* the first byte */
     zacpi_u64 limit; /* the last byte */
     uint16_t segment;
+    uint8_t reserved[6]; /* 0 */
 };
 struct zacpi_dmar_root_ports { /* Root Port ATS Capability Reporting (ATSR), section 8.5: ports that
                                 * support address translation services */
@@ -1414,6 +1471,7 @@ struct zacpi_dmar_root_ports { /* Root Port ATS Capability Reporting (ATSR), sec
 struct zacpi_dmar_affinity { /* Remapping Hardware Static Affinity (RHSA), section 8.6 */
     zacpi_u64 register_base; /* of the unit that is in the domain */
     uint32_t domain;         /* Proximity Domain */
+    uint8_t reserved[4]; /* 0 */
 };
 enum zacpi_dmar_type { /* Type of a structure, section 8.2 */
     ZACPI_DMAR_DRHD = 0, ZACPI_DMAR_RMRR = 1, ZACPI_DMAR_ATSR = 2, ZACPI_DMAR_RHSA = 3,
@@ -1512,6 +1570,7 @@ struct zacpi_ivrs_unit { /* I/O Virtualization Hardware Definition (IVHD) */
     uint8_t block_type;
     uint8_t flags;                 /* of enum zacpi_ivhd_flag */
     uint8_t has_extended_features; /* 0 for Type 0x10 */
+    uint8_t reserved; /* 0 */
 };
 enum zacpi_ivhd_flag { /* Flags of an IVHD; the last two are only of Type 0x10 */
     ZACPI_IVHD_HT_TUN_EN = 0x1, ZACPI_IVHD_PASS_PW = 0x2, ZACPI_IVHD_RES_PASS_PW = 0x4,
@@ -1527,6 +1586,7 @@ struct zacpi_ivrs_device {
     uint16_t source_id; /* Source DeviceID of an alias (Types 0x42 and 0x43), else the device's own
                          * id */
     uint8_t settings;   /* DTE Setting of the entry */
+    uint8_t reserved[5]; /* 0 */
 };
 struct zacpi_ivrs_memory { /* I/O Virtualization Memory Definition (IVMD) */
     zacpi_u64 start, length;
@@ -1534,6 +1594,7 @@ struct zacpi_ivrs_memory { /* I/O Virtualization Memory Definition (IVMD) */
     uint16_t auxiliary; /* Auxiliary Data: of Type 0x22 the last device */
     uint8_t block_type; /* 0x20 for all devices, 0x21 for one, 0x22 for a range */
     uint8_t flags;      /* of enum zacpi_ivmd_flag */
+    uint8_t reserved[2]; /* 0 */
 };
 
 struct zacpi_ivrs_entry { /* a device entry; a field that its Type lacks is 0. Of padding, Types 0
@@ -1547,6 +1608,7 @@ struct zacpi_ivrs_entry { /* a device entry; a field that its Type lacks is 0. O
     uint8_t entry_type, settings;
     uint8_t handle, variety; /* of Type 0x48, and those below of 0xf0 */
     uint8_t hardware_id[8], compatible_id[8], unique_id_format, unique_id[32];
+    uint8_t reserved; /* 0 */
 };
 
 /* Lists the IVHDs of all Types, up to the first byte at which no block begins. Fails with an

@@ -13,6 +13,7 @@
 
 struct zacpi_table_ids { /* section 5.2.6. Names are filled up with spaces or zeros */
     uint8_t oem_id[6], oem_table_id[8];
+    uint8_t reserved[2]; /* 0 */
     uint32_t oem_revision;
     uint8_t creator_id[4];
     uint32_t creator_revision;
@@ -34,6 +35,7 @@ struct zacpi_madt_contents {
     zacpi_u64 wakeup_mailbox; /* MailBoxAddress (section 5.2.12.19), if has_wakeup_mailbox */
     uint8_t also_has_8259;   /* PCAT_COMPAT */
     uint8_t has_wakeup_mailbox;
+    uint8_t reserved[6]; /* 0 */
 };
 struct zacpi_gic_contents {
     struct zacpi_gic_distributor distributor;
@@ -64,6 +66,7 @@ struct zacpi_rhct_contents { /* RISC-V Hart Capabilities Table, ACPI 6.6 */
     zacpi_size harts_length;
     zacpi_u64 time_base_frequency;
     uint32_t flags;         /* bit 0: the timer can't wake the processor */
+    uint8_t reserved[4]; /* 0 */
 };
 struct zacpi_apic_domain { /* sections 5.2.16.1 and 5.2.16.3 */
     uint32_t local_apic_id; /* APIC ID or X2APIC ID */
@@ -86,10 +89,12 @@ struct zacpi_spcr_contents {
                                     * 8 a GIC, 16 a PLIC or an APLIC, or a sum of these, if
                                     * has_global_system_interrupt */
     uint8_t flow_control, terminal_type;
+    uint8_t reserved[5]; /* 0 */
 };
 struct zacpi_platform_timer { /* section 5.2.24.1: a GT Block or a watchdog */
     uint32_t kind;                       /* 0: the block. 1: the watchdog. The other isn't looked
                                           * at */
+    uint8_t reserved[4]; /* 0 */
     zacpi_u64 block_address;
     const struct zacpi_gt_frame *frames; /* block_address isn't looked at */
     zacpi_size frames_length;
@@ -104,6 +109,7 @@ struct zacpi_facs_contents { /* section 5.2.10 */
     zacpi_u64 waking_vector_64; /* X_Firmware_Waking_Vector */
     uint32_t hardware_signature, waking_vector;
     uint8_t supports_s4bios, supports_64_bit_wake;
+    uint8_t reserved[6]; /* 0 */
 };
 
 /* Writes an RSDP of revision 2 that points to an XSDT (section 5.2.5.3): 36 bytes. Of `ids` it
@@ -206,7 +212,7 @@ ZACPI_STATUS zacpi_write_bgrt(const struct zacpi_table_ids *ids,
 /* Writes an SPCR of revision 4, 90 bytes, with a Language of 0, the NamespaceString "." of a port
  * with no object, and in Configured Baud Rate the rate's code, or 0 if it has none. A base, an
  * interrupt or a rate that isn't there is written as 0 and not looked at, and a rate of 0 is read
- * as none; reserved codes of `interface`, `parity` and stop_bits are written. Fails with
+ * as none; reserved codes of interface_type, `parity` and stop_bits are written. Fails with
  * ZACPI_UNKNOWN_CODE, ZACPI_NO_ADDRESS if `base` is present at address 0, ZACPI_BAD_NAME or
  * ZACPI_NO_ROOM. */
 ZACPI_STATUS zacpi_write_spcr(const struct zacpi_table_ids *ids,
@@ -253,6 +259,7 @@ struct zacpi_aml_contents {
     const uint8_t *aml; /* of what iasl compiles, which begins with a header, from + 36 on */
     zacpi_size aml_length;
     uint8_t revision;
+    uint8_t reserved[7]; /* 0 */
 };
 struct zacpi_listed_table { /* a whole table, whoever wrote it */
     const uint8_t *bytes;
@@ -260,6 +267,7 @@ struct zacpi_listed_table { /* a whole table, whoever wrote it */
 };
 struct zacpi_machine {
     struct zacpi_table_ids ids;
+    uint8_t reserved[4]; /* 0 */
     ZACPI_SLOT const struct zacpi_listed_table *tables; /* in the order of the XSDT */
     zacpi_size tables_length;
     const struct zacpi_aml_contents *dsdts;  /* the first is the DSDT, if there is one */

@@ -98,11 +98,15 @@ def copy_packages(erase, folder):
 def workspace(erase, folder, names):
     """Writes the workspace of these crates and of the packages."""
     copy_packages(erase, folder)
+    shutil.copytree(erase.ROOT / 'tools/acpi_dump', folder / 'acpi_dump',
+                    ignore=shutil.ignore_patterns('tests', 'examples', 'data'))
+    toml = folder / 'acpi_dump/Cargo.toml'
+    toml.write_text(toml.read_text().replace('../../bindings/', '../'))
     heap = 'linked_list_allocator'
     shutil.copytree(erase.ROOT / 'tests/rustc' / heap, folder / heap)
     for name in names:
         one_crate(erase, folder, name, [('zacpi', 'rust'), (NAME, 'programs'), (heap, heap)])
-    members = ', '.join(f'"{name}"' for name in [*names, 'programs'])
+    members = ', '.join(f'"{name}"' for name in [*names, 'programs', 'acpi_dump'])
     (folder / 'Cargo.toml').write_text(WORKSPACE.format(members=members))
 
 

@@ -118,7 +118,7 @@ static void tables(const struct zacpi_source *source, const struct printer *p) {
     count = refused ? 0 : shown(p, count);
     for (i = 0; i < count; i++) {
         say(p, "table ");
-        say_signature(p, list.tables[i].signature);
+        say_signature(p, list.tables[i].signature.letters);
         say(p, " length ");
         say_number(p, list.tables[i].length);
         say(p, " revision ");

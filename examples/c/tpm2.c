@@ -5,7 +5,11 @@
 #include <stdio.h>
 
 int main(void) {
-    static const struct zacpi_table_ids ids = {"ZACPI", "GUEST", 1, {'Z', 'F', 'I', 'R'}, 1};
+    static const struct zacpi_table_ids ids = {.oem_id = "ZACPI",
+                                               .oem_table_id = "GUEST",
+                                               .oem_revision = 1,
+                                               .creator_id = {'Z', 'F', 'I', 'R'},
+                                               .creator_revision = 1};
     struct zacpi_raw_tpm2 tpm = {{{0}, 0, 0, 0, {0}, {0}, 0, {0}, 0}, 0, 0, 0, 0, {0}, 0, 0};
     const uint8_t *body = (const uint8_t *)&tpm + sizeof tpm.header;
     uint8_t table[sizeof tpm];

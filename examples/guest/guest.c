@@ -7,13 +7,13 @@
 
 enum { TABLES = 0x7000000, ROOM = 1 << 20, MOST = 4096, HALF = 64 << 20 };
 /* The contents of the tables, but for the processors. */
-static const struct zacpi_io_apic io_apic = {0xfec00000, 0, 0};
+static const struct zacpi_io_apic io_apic = {.address = 0xfec00000};
 static const struct zacpi_interrupt_source_override overrides[] = {
     {.isa_source = 0, .global_system_interrupt = 2}, /* the timer */
     {.isa_source = 9, .global_system_interrupt = 9, .polarity = ZACPI_POLARITY_HIGH, .trigger = ZACPI_TRIGGER_LEVEL}};
-static const struct zacpi_pci_region pci = {0xb0000000, 0, 0, 255};
+static const struct zacpi_pci_region pci = {.base_address = 0xb0000000, .last_bus = 255};
 static const struct zacpi_hpet_info hpet = {0xfed00000, 0x8086a201, 100, 0, 0};
-static const struct zacpi_memory_affinity halves[] = {{0, HALF, 0, 0, 0}, {HALF, HALF, 1, 0, 0}};
+static const struct zacpi_memory_affinity halves[] = {{.length = HALF}, {.address = HALF, .length = HALF, .domain = 1}};
 static const uint8_t distances[] = {10, 20, 20, 10};
 static const uint8_t soft_off[] = {0x08, '_', 'S', '5', '_', 0x12, 4, 2, 0, 0}; /* Name (_S5, Package {0, 0}) */
 static struct zacpi_processor processors[MOST];
@@ -29,7 +29,8 @@ static void place(size_t count) {
 }
 /* A register of `bits` bits among the I/O ports. */
 static struct zacpi_register port(uint64_t address, uint8_t bits) {
-    struct zacpi_register answer = {{address, ZACPI_SPACE_SYSTEM_IO, bits, 0, 0}, 1};
+    struct zacpi_register answer = {.at = {.address = address, .space = ZACPI_SPACE_SYSTEM_IO, .bit_width = bits},
+                                    .present = 1};
     return answer;
 }
 static struct zacpi_fixed_hardware hardware(void) {
@@ -47,7 +48,11 @@ static struct zacpi_fixed_hardware hardware(void) {
 
 /* Writes the tables of a machine with `count` processors into `memory`, and how many bytes they have to `length`. */
 static zacpi_status write_machine(size_t count, size_t *length) {
-    const struct zacpi_table_ids ids = {"ZACPI", "GUEST", 1, {'Z', 'F', 'I', 'R'}, 1};
+    const struct zacpi_table_ids ids = {.oem_id = "ZACPI",
+                                        .oem_table_id = "GUEST",
+                                        .oem_revision = 1,
+                                        .creator_id = {'Z', 'F', 'I', 'R'},
+                                        .creator_revision = 1};
     const struct zacpi_madt_contents madt = {.processors = processors,
                                              .processors_length = count,
                                              .io_apics = &io_apic,
@@ -58,8 +63,8 @@ static zacpi_status write_machine(size_t count, size_t *length) {
                                              .also_has_8259 = 1};
     const struct zacpi_srat_contents srat = {
         .apics = domains, .apics_length = count, .ranges = halves, .ranges_length = 2};
-    const struct zacpi_aml_contents dsdt = {soft_off, sizeof soft_off, 2};
-    const struct zacpi_facs_contents facs = {0, 0, 0, 0, 0};
+    const struct zacpi_aml_contents dsdt = {.aml = soft_off, .aml_length = sizeof soft_off, .revision = 2};
+    const struct zacpi_facs_contents facs = {0};
     struct zacpi_fixed_hardware fadt = hardware();
     struct zacpi_listed_table tables[6];
     const struct zacpi_machine machine = {.ids = ids,

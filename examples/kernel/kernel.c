@@ -92,7 +92,7 @@ static void places(const struct zacpi_source *source) {
     size_t count = 0;
     if (!zacpi_list_tables(source, tables, 256, &count, &named))
         for (size_t i = 0; i < count && i < 256; i++) {
-            say(&serial, "listed "), say_signature(&serial, tables[i].signature), say(&serial, " ");
+            say(&serial, "listed "), say_signature(&serial, tables[i].signature.letters), say(&serial, " ");
             say_address(&serial, tables[i].address), line();
         }
     if (!zacpi_list_ranges(source, ranges, 512, &count, &named))

@@ -1,13 +1,11 @@
 /* SPDX-License-Identifier: MIT */
-/* The program by a BIOS, whose calls have the screen, the keys, the memory map and the drive. The file is there
- * already: the sectors of it are one after the other, and the image's maker has written into the program where. */
+/* The program by a BIOS, whose calls have the screen, the keys, the memory map and the drive, on which fat.c finds the
+ * file. */
 #include "bios.h"
 #include "plan.h"
 #include "stick.h"
 
-enum { SECTOR = 512, TICKS = 0x46c, TICKS_PER_SECOND = 18 };
-static uint8_t there[BLOCK] __attribute__((aligned(16)));
-static uint32_t written; /* sectors */
+enum { TICKS = 0x46c, TICKS_PER_SECOND = 18 };
 
 const char *firmware_name(void) { return "BIOS"; }
 
@@ -77,46 +75,13 @@ int wait_for_key(uint32_t seconds) {
     return 0;
 }
 
-/* Reads or writes sectors of the file, from the `written`-th on. Returns whether that failed. */
-static int transfer(uint32_t function, uint8_t *block, uint32_t sectors) {
+int transfer(uint32_t function, uint8_t *block, uint32_t sector, uint32_t sectors) {
     const uint32_t at = (uint32_t)(uintptr_t)block;
     struct registers r = {0};
-    packet = (struct packet){16, 0, (uint16_t)sectors, at & 15, (uint16_t)(at >> 4), file_sector + written};
+    packet = (struct packet){16, 0, (uint16_t)sectors, at & 15, (uint16_t)(at >> 4), sector};
     r.eax = function << 8, r.edx = drive, r.esi = (uint32_t)(uintptr_t)&packet;
     run_in_real_mode(&r, INT(0x13));
     return r.flags & CARRY;
-}
-const char *file_name(void) { return "BIOS.TXT"; }
-
-/* The file begins with "# zacpi " since the image was made: what else is there isn't it. */
-static int is_file(const uint8_t *block) {
-    for (int i = 0; i < 8; i++)
-        if (block[i] != "# zacpi "[i]) return 0;
-    return 1;
-}
-const char *open_file(void) {
-    written = 0;
-    if (transfer(0x42, there, 1)) return "the stick can't be read";
-    return is_file(there) ? 0 : "it isn't where it was: write the image to the stick anew";
-}
-const char *write_block(uint8_t *block, size_t length) {
-    const uint32_t sectors = (uint32_t)(length + SECTOR - 1) / SECTOR;
-    while (length < sectors * SECTOR) block[length++] = '\n';
-    if (written + sectors > file_sectors) return "the file is full";
-    if (transfer(0x43, block, sectors)) return "the stick can't be written";
-    written += sectors;
-    return 0;
-}
-/* What an earlier run left after this one's text goes: from the first sector that is blank on nothing is. */
-const char *close_file(void) {
-    for (; written < file_sectors; written++) {
-        int is_blank = 1;
-        if (transfer(0x42, there, 1)) return "the stick can't be read";
-        for (int i = 0; i < SECTOR; i++) is_blank &= there[i] == '\n', there[i] = '\n';
-        if (is_blank) return 0;
-        if (transfer(0x43, there, 1)) return "the stick can't be written";
-    }
-    return 0;
 }
 
 /* Memory is at its own address. */

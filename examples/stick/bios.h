@@ -1,4 +1,4 @@
-/* A call of the BIOS by calls.s, and what it shares with bios.c. */
+/* A call of the BIOS by calls.s, and what it shares with bios.c and fat.c. */
 #ifndef BIOS_H
 #define BIOS_H
 #include <stdint.h>
@@ -13,8 +13,10 @@ void run_in_real_mode(struct registers *registers, uint16_t instruction);
 #define INT(number) ((uint16_t)(0xcd | (number) << 8))
 #define HLT_NOP ((uint16_t)0x90f4)
 
-/* Where the file is on the drive: the image's maker writes both, and finds them by their place in calls.s. */
-extern const volatile uint32_t file_sector, file_sectors;
+/* Reads or writes sectors of the drive by a function of int 0x13. Returns whether that failed. */
+enum { READ = 0x42, WRITE = 0x43 };
+int transfer(uint32_t function, uint8_t *block, uint32_t sector, uint32_t sectors);
+
 extern uint8_t drive;
 /* Below 64 KiB, for calls with an address in 16 bits. */
 extern struct packet {

@@ -2,11 +2,9 @@
         .set real_stack, 0x7000
         .section .head, "awx"
         .code16
-        .globl start, file_sector, file_sectors, drive, packet, piece
+        .globl start, drive, packet, piece
 start:  jmp begin
         .balign 4
-file_sector: .long 0                    # at 4 and 8: the image's maker writes them
-file_sectors: .long 0
 packet: .skip 16
 piece:  .skip 24
 registers: .skip 36                     # edi, esi, ebp, esp, ebx, edx, ecx, eax, flags

@@ -4,7 +4,9 @@
 whose names have PART, turns the pages, and compares: the tables on the screen, and the machine, with what acpi_dump
 prints of the text that is on the stick then; the bytes in the text with the machine's memory; the plans with those
 worked out of these bytes; and what else is on the stick with the image. One machine has wrong tables, whose faults have
-to be on the screen. Each has to power itself off. The last line is `N passed, M failed`."""
+to be on the screen. Each has to power itself off. Then a BIOS boots a stick after each of the edits of edits.py, and
+one that keeps nothing: BIOS.TXT has this machine's tables then, or no sector is written and the screen has why. The
+last line is `N passed, M failed`."""
 import os
 import re
 import select
@@ -16,6 +18,7 @@ import tempfile
 import time
 
 sys.path.append(os.path.join(os.path.dirname(os.path.abspath(__file__)), '..'))
+from edits import EDITS, OLD, PARTITION, SECTOR, Forgetful, Volume
 from plans import plans
 from qemu import Ending, Memory, change, save
 
@@ -28,8 +31,6 @@ CONTROLS = re.compile(rb'\x1b(\[[0-9;=?]*[A-Za-z]|c)|\r')
 FACTS = re.compile(r'(profile|processors?|interrupts|I/O APIC|PM timer|HPET|PCI segment|memory domain|redistributors|'
                    r'ITS)\b')
 WIDTH = 21  # the column of what a name means
-PARTITION = 1 << 20
-SIZE = 4 << 20  # of the file that a BIOS writes
 FLASH = 'if=pflash,format=raw,%s=on,file=%s'
 NUMA = ['-object', 'memory-backend-ram,id=m0,size=128M', '-object', 'memory-backend-ram,id=m1,size=128M',
         '-numa', 'node,nodeid=0,memdev=m0,cpus=0-1', '-numa', 'node,nodeid=1,memdev=m1,cpus=2-3']
@@ -92,6 +93,7 @@ MACHINES = {
         'timer EL1 virtual    interrupt 27, level, active high', 'power                by PSCI, HVC', NO_FAULT]),
 }
 GOES_ON = 'q35, SeaBIOS'
+NOT_WRITTEN = "BIOS.TXT isn't written, so don't send it: "
 # What is written into the machine's memory when its BIOS starts what the first sector has.
 WRITES = {'pc with wrong sums, SeaBIOS': (0x7c00, wrong_sums)}
 
@@ -158,9 +160,9 @@ def listed(lines):
     return [m.groups() for m in found if m]
 
 
-def boot(name, stick, folder):
+def boot(command, stick, folder, writes=None, goes_on=False):
     """The lines of all pages, the memory of the tables that they list, and how the machine ended."""
-    guest, goes_on = Guest(MACHINES[name][0], stick, folder, WRITES.get(name)), name == GOES_ON
+    guest = Guest(command, stick, folder, writes)
     try:
         lines, files, has_prompt = [], [], True
         while has_prompt:
@@ -244,14 +246,22 @@ def check_text(lines, text, memory):
     return wrong
 
 
-def check_stick(stick, name):
+def content(path):
+    with open(path, 'rb') as file:
+        return file.read()
+
+
+def changed(before, stick):
+    """The numbers of the sectors that have changed since before."""
+    now = content(stick)
+    return {at // SECTOR for at in range(0, len(now), SECTOR) if now[at:at + SECTOR] != before[at:at + SECTOR]}
+
+
+def check_stick(stick, name, before):
     """What is wrong with the rest of the stick: a BIOS writes no other sector than those of its file, and UEFI leaves
     the other files as they were."""
     if name == 'BIOS.TXT':
-        with open(stick, 'rb') as now, open(IMAGE, 'rb') as before:
-            now, before = now.read(), before.read()
-        first = before.index(b"# zacpi hasn't written this file yet")
-        same = now[:first] == before[:first] and now[first + SIZE:] == before[first + SIZE:]
+        same = changed(before, stick) <= Volume(stick).sectors(name)
         return [] if same else ['other sectors have changed']
     names = ['README.TXT', 'BIOS.TXT', 'EFI/BOOT/BOOTX64.EFI', 'EFI/BOOT/BOOTAA64.EFI']
     return [n + ' has changed' for n in names if mtool('mtype', stick, '::/' + n) != mtool('mtype', IMAGE, '::/' + n)]
@@ -259,8 +269,9 @@ def check_stick(stick, name):
 
 def check(machine, stick, folder):
     """What is wrong on a machine, and what was seen."""
-    _, name, wanted = MACHINES[machine]
-    lines, memory, ended = boot(machine, stick, folder)
+    command, name, wanted = MACHINES[machine]
+    before = content(stick)
+    lines, memory, ended = boot(command, stick, folder, WRITES.get(machine), machine == GOES_ON)
     with open(os.path.join(folder, 'errors')) as errors:
         wrong = [] if ended == (0, ['shutdown']) else ['ended by %r: %r, %s' % (ended, lines[-4:], errors.read())]
     text = mtool('mtype', stick, '::/' + name).decode('latin1')
@@ -272,7 +283,7 @@ def check(machine, stick, folder):
         line = re.sub(r'(\w{4})\+(0x\w+)', lambda m: '0x%x' % (at.get(m[1], 0) + int(m[2], 16)), line)
         if line not in lines:
             wrong.append('the screen hasn\'t %r' % line)
-    wrong += check_text(lines, text.rstrip('\n'), memory) + check_stick(stick, name)
+    wrong += check_text(lines, text.rstrip('\n'), memory) + check_stick(stick, name, before)
     facts = sorted(line for line in lines if FACTS.match(line) and not listed([line]))
     if DUMP:
         wrong += as_listed(lines, dumped(path))
@@ -280,29 +291,63 @@ def check(machine, stick, folder):
     return wrong, '%d tables, %d facts' % (len(listed(lines)), len(facts)), lines
 
 
+def check_edit(name, stick, folder):
+    """What is wrong on a machine whose stick was edited, or keeps nothing."""
+    edit, why = EDITS.get(name, (lambda volume: None, "the stick hasn't kept what was written"))
+    shutil.copyfile(IMAGE, stick)
+    volume, drive = Volume(stick), stick
+    volume.write(volume.place(volume.chain('BIOS.TXT')[0]), OLD)
+    edit(volume)
+    before = content(stick)
+    if name not in EDITS:
+        drive = 'nbd:unix:' + os.path.join(folder, 'nbd')
+        Forgetful(before, os.path.join(folder, 'nbd')).start()
+    lines, memory, ended = boot(bios('pc'), drive, folder)
+    wrong, written = [] if ended[0] == 0 else ['ended by %r' % (ended,)], changed(before, stick)
+    said = [line.split(NOT_WRITTEN)[1] for line in lines if NOT_WRITTEN in line]
+    if why:
+        wrong += ['why it isn\'t written: %r' % said] * (said != [why, why])
+        return wrong + ['%d sectors were written' % len(written)] * bool(written), why, lines
+    wrong += said + ['sectors of other files were written'] * (not written <= volume.sectors('BIOS.TXT'))
+    text = mtool('mtype', stick, '::/BIOS.TXT')
+    wrong += ['the text of the machine before is there'] * (b'OLDT' in text)
+    if wrong:
+        return wrong, 'it is written', lines
+    return wrong + check_text(lines, text.decode('latin1').rstrip('\n'), memory), 'it is written', lines
+
+
+def show(name, wrong, what, lines):
+    """Prints what was seen on a machine, and returns whether nothing is wrong."""
+    print('%s: %s: %s' % ('FAILED' if wrong else 'ok', name, what))
+    if wrong:
+        print('\n'.join('    ' + line for line in wrong + lines))
+    elif os.environ.get('SHOW'):
+        print('\n'.join(lines))
+    return not wrong
+
+
+def lacks(command):
+    """The first file or program that is missing for a machine."""
+    files = [word.rsplit('=', 1)[1] for word in command if word.startswith('if=pflash')]
+    return next((f for f in files if not os.path.exists(f)), '' if shutil.which(command[0]) else command[0])
+
+
 def main():
-    passed = failed = 0
-    sticks = {name: os.path.join(FILES.name, name + '.image') for name in ('BIOS.TXT', 'UEFI.TXT')}
-    for stick in sticks.values():
-        shutil.copyfile(IMAGE, stick)
-    for name, machine in MACHINES.items():
+    sticks, results = {}, []
+    for stick in ('BIOS.TXT', 'UEFI.TXT', 'edited'):
+        sticks[stick] = os.path.join(FILES.name, stick + '.image')
+        shutil.copyfile(IMAGE, sticks[stick])
+    for name in [*MACHINES, *EDITS, 'it keeps nothing']:
+        command, stick, _ = MACHINES.get(name, (bios('pc'), 'edited', None))
         if PART not in name:
             continue
-        files = [word.rsplit('=', 1)[1] for word in machine[0] if word.startswith('if=pflash')]
-        missing = [f for f in files if not os.path.exists(f)] + [machine[0][0]] * (not shutil.which(machine[0][0]))
-        if missing:
-            print('skipped: %s, since there is no %s' % (name, missing[0]))
+        if lacks(command):
+            print('skipped: %s, since there is no %s' % (name, lacks(command)))
             continue
         with tempfile.TemporaryDirectory() as folder:
-            wrong, what, lines = check(name, sticks[machine[1]], folder)
-        print('%s: %s: %s' % ('FAILED' if wrong else 'ok', name, what))
-        if wrong:
-            print('\n'.join('    ' + line for line in wrong + lines))
-        elif os.environ.get('SHOW'):
-            print('\n'.join(lines))
-        passed, failed = passed + (not wrong), failed + bool(wrong)
-    print('%d passed, %d failed' % (passed, failed))
-    return 1 if failed else 0
+            results.append(show(name, *(check if name in MACHINES else check_edit)(name, sticks[stick], folder)))
+    print('%d passed, %d failed' % (sum(results), len(results) - sum(results)))
+    return 0 if all(results) else 1
 
 
 sys.exit(main())

@@ -1,13 +1,18 @@
 /* SPDX-License-Identifier: MIT */
 #include "stick.h"
 
-/* The text goes to the file in blocks; after an error nothing more does. */
+/* The text is counted first. Then it goes to the file in blocks; after an error nothing more does. */
 static uint8_t block[BLOCK] __attribute__((aligned(16)));
-static size_t used;
+static size_t used, counted;
+static int is_counted;
 static const char *why;
 
 static void to_file(void *to, const char *bytes, size_t length) {
     (void)to;
+    if (!is_counted) {
+        counted += length;
+        return;
+    }
     for (; length--; bytes++) {
         block[used++] = (uint8_t)*bytes;
         if (used < BLOCK) continue;
@@ -56,16 +61,21 @@ static void print_table(const struct entry *entry) {
     say(&file, "\n");
 }
 
-const char *save_tables(const struct entry *entries, size_t count, void (*print)(const struct printer *p)) {
-    const char *closed;
-    used = 0;
-    why = open_file();
-    if (why) return why;
+static void print_text(const struct entry *entries, size_t count, void (*print)(const struct printer *p)) {
     print(&comments);
     say(&file, "\n");
     for (size_t i = 0; i < count; i++)
         if (entries[i].here && !is_private(entries + i)) print_table(entries + i);
+}
+
+const char *save_tables(const struct entry *entries, size_t count, void (*print)(const struct printer *p)) {
+    const char *closed;
+    print_text(entries, count, print);
+    is_counted = 1;
+    why = open_file(counted);
+    if (why) return why;
+    print_text(entries, count, print);
     if (used && !why) why = write_block(block, used);
-    closed = close_file();
+    closed = close_file(block);
     return why ? why : closed;
 }

@@ -89,20 +89,23 @@ static void print_all(const struct printer *p) {
     print_faults(&source, entries, count, p);
 }
 
-static void save(void) {
-    const char *why = save_tables(entries, count, print_all);
+/* Where the file is found, or why it isn't written: what is in it then may be another machine's. */
+static void say_saved(const char *why) {
     say(&screen, file_name());
-    if (why) say(&screen, " isn't written: "), say(&screen, why), say(&screen, "\n");
+    if (why) say(&screen, " isn't written, so don't send it: "), say(&screen, why), say(&screen, "\n");
     else say(&screen, " on the stick has these pages, and the bytes of the tables.\n");
 }
 
 /* Saves first, so that nobody has to wait for that. */
 void stick(uint32_t start, uint64_t address) {
+    const char *why;
     clear_screen();
     find_tables(start, address);
-    save();
+    why = save_tables(entries, count, print_all);
+    say_saved(why);
     print_all(&screen);
-    say(&screen, "\fThe end. README.TXT on the stick has what to send.\n"
+    say(&screen, "\fThe end. "), say_saved(why);
+    say(&screen, "README.TXT on the stick has what to send.\n"
                  "Now the machine powers itself off. If it doesn't, switch it off.\n");
     turn_page();
     power_off(&source);

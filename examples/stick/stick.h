@@ -17,13 +17,13 @@ void clear_screen(void);
 void show_text(const char *text, size_t length); /* ends a line by '\n' */
 int wait_for_key(uint32_t seconds);              /* whether one was pressed */
 
-/* The file on the stick. Each returns why it can't, or null. A block has at most BLOCK bytes, and all but the last have
- * as many. */
+/* The file on the stick, for a text of so many bytes. Each returns why it can't, or null. A block has at most BLOCK
+ * bytes, and all but the last have as many; at the end its memory may be used. */
 enum { BLOCK = 32768 };
 const char *file_name(void);
-const char *open_file(void);
+const char *open_file(size_t length);
 const char *write_block(uint8_t *block, size_t length);
-const char *close_file(void);
+const char *close_file(uint8_t *block);
 
 void power_off(const struct zacpi_source *source); /* may return */
 

@@ -69,16 +69,17 @@ int wait_for_key(uint32_t seconds) {
 
 const char *file_name(void) { return "UEFI.TXT"; }
 /* A new file in place of the one that is there. */
-const char *open_file(void) {
+const char *open_file(size_t length) {
     static const struct guid loaded_guid = {0x5b1b31a1, 0x9562, 0x11d2, {0x8e, 0x3f, 0, 0xa0, 0xc9, 0x69, 0x72, 0x3b}};
     static const struct guid volume_guid = {0x964e5b22, 0x6459, 0x11d2, {0x8e, 0x39, 0, 0xa0, 0xc9, 0x69, 0x72, 0x3b}};
     static const uint16_t name[] = {'U', 'E', 'F', 'I', '.', 'T', 'X', 'T', 0};
     struct loaded_image *loaded;
     struct file_system *volume;
+    (void)length;
     if (system->boot->handle_protocol(image, &loaded_guid, (void **)&loaded)) return "the stick isn't known";
     if (system->boot->handle_protocol(loaded->device, &volume_guid, (void **)&volume)) return "it has no file system";
     if (volume->open_volume(volume, &root)) return "the stick can't be opened";
-    if (!root->open(root, &file, name, FILE_READ_WRITE, 0)) file->remove(file);
+    if (!root->open(root, &file, name, FILE_READ_WRITE, 0) && file->remove(file)) return "the old one can't be removed";
     if (root->open(root, &file, name, FILE_READ_WRITE | FILE_CREATE, 0)) return "the file can't be made";
     return 0;
 }
@@ -86,7 +87,10 @@ const char *write_block(uint8_t *block, size_t length) {
     uint64_t size = length;
     return file->write(file, &size, block) || size != length ? "the stick is full, or can't be written" : 0;
 }
-const char *close_file(void) { return file->close(file) | root->close(root) ? "the file can't be closed" : 0; }
+const char *close_file(uint8_t *block) {
+    (void)block;
+    return file->close(file) | root->close(root) ? "the file can't be closed" : 0;
+}
 
 void power_off(const struct zacpi_source *source) {
     (void)source;

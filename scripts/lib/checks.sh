@@ -37,32 +37,17 @@ has_rust() {
     [ "$oldest" = "$wanted" ] || { echo "skipped: rustc $oldest is older than $wanted"; return 1; }
 }
 
-# Has cargo take the crates of others from Debian's packages, if they are there: those of Cargo.lock, with its sums,
-# which Debian's packages haven't all. Another Debian has other versions, of which copies below $made are then built.
+# Has cargo take the crates of others from Debian's packages (scripts/lib/crates), if they are there. Of a Debian with
+# other versions than Cargo.lock has, copies of the tree below $made lose that.
 crates_of_debian() {
-    for crate in clap clap_complete flate2 serde_json strsim xz2; do
-        ls -d /usr/share/cargo/registry/$crate-[0-9]* >/dev/null 2>&1 || return 1
-    done
-    registry=$made/registry
-    locked_crates "$registry" || { registry=/usr/share/cargo/registry && rm -f "$made"/*/Cargo.lock; }
+    scripts/lib/crates "$made/crates"
+    case $? in
+        0) registry=$made/crates/registry ;;
+        2) registry= && rm -f "$made"/*/Cargo.lock ;;
+        *) return 1 ;;
+    esac
     export CARGO_HOME="$made/cargo-home"
-    mkdir -p "$CARGO_HOME" && cat >"$CARGO_HOME/config.toml" <<END
-[source.crates-io]
-replace-with = "debian"
-[source.debian]
-directory = "$registry"
-[net]
-offline = true
-END
-}
-locked_crates() { # FOLDER
-    awk -F '"' '/^name/ { crate = $2 } /^version/ { crate = crate "-" $2 } /^checksum/ { print crate, $2 }' \
-        Cargo.lock >"$made/locked" || return 1
-    while read -r crate sum; do
-        [ -d "/usr/share/cargo/registry/$crate" ] && mkdir -p "$1/$crate" &&
-            ln -sf "/usr/share/cargo/registry/$crate"/* "$1/$crate" || return 1
-        printf '{"package": "%s", "files": {}}\n' "$sum" >"$1/$crate/.cargo-checksum.json"
-    done <"$made/locked"
+    mkdir -p "$CARGO_HOME" && cp "$made/crates/config.toml" "$CARGO_HOME/"
 }
 
 # What acpi_view says for every sample image, by each of its starts: a start of which it is known whether it opens

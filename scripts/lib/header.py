@@ -31,6 +31,30 @@ structs = {name: [field for part in body.split(';') if part.strip() for field in
            for name, body in re.findall(r'\nstruct (zacpi_\w+) \{(.*?)\n\};', text, flags=re.S)}
 calls = {name: [field for part in arguments.split(',') for field in split(part)]
          for name, arguments in re.findall(r'\nZACPI_STATUS (zacpi_\w+)\(([^;]*)\);', text)}
+
+
+def reached(is_there):
+    """The structs of calls' arguments whose types are there, and the structs that their fields of such types are."""
+    found, left = set(), [kind for fields in calls.values() for kind, _ in fields if is_there(kind)]
+    while left:
+        name = re.sub(r'^(?:const )?struct |[ *]+$', '', left.pop())
+        if name in structs and name not in found:
+            found.add(name)
+            left += [kind for kind, _ in structs[name] if is_there(kind) or not kind.endswith('*')]
+    return found
+
+
+def returned():
+    """The structs that calls write."""
+    return reached(lambda kind: kind.endswith('*') and not kind.startswith('const '))
+
+
+def passed():
+    """The structs that callers fill, also with where the items of lists go."""
+    listing = {f'struct {name} *' for name, fields in structs.items() if list(lists(fields))}
+    return reached(lambda kind: not kind.endswith('*') or kind.startswith('const ') or kind in listing)
+
+
 SIZES = {'uint8_t': 1, 'uint16_t': 2, 'uint32_t': 4, 'zacpi_status': 4, 'zacpi_u64': 8, 'zacpi_size': 8}
 
 

@@ -4,7 +4,7 @@ file of which crate each is, and which fields it has."""
 import re
 import sys
 from pathlib import Path
-from lib.header import ROOT, declared, lists, structs
+from lib.header import ROOT, declared, lists, returned, structs
 
 # The crates of the calls, from the lowest up.
 CRATES = ['acpi_c_lib', 'acpi_c_interrupts', 'acpi_c_devices', 'acpi_c_machine']
@@ -66,6 +66,7 @@ def lent(kind):
 
 by_name = {rust_name(name): fields for name, fields in structs.items()}
 lending = {name for name, fields in by_name.items() if list(lists(fields))}
+written = {rust_name(name) for name in returned()}
 
 
 def module_of(file):
@@ -80,6 +81,11 @@ def source_of(module):
     return (ROOT / 'crates' / crate / 'src').joinpath(*parts).with_suffix('.rt')
 
 
+def fields_here(name):
+    """A record's fields as the library has them: of one that it only reads, what is reserved is left to the layout."""
+    return [field for field in rust_fields(by_name[name]) if name in written or not field[0].startswith('reserved')]
+
+
 def by_hand():
     """The module, or the crate below, of each record that no script makes; stops at one that isn't as in the header."""
     found = {}
@@ -90,7 +96,7 @@ def by_hand():
                 if module_of(file) in FILES:
                     continue
                 has = [(field, re.sub(r"'\w+", "'a", kind)) for field, kind in re.findall(r'pub (\w+): (.*),\n', body)]
-                if has != list(rust_fields(by_name[name])):
+                if has != fields_here(name):
                     sys.exit(f'{file.relative_to(ROOT)}: {name} has other fields than in the header')
                 found[name] = module_of(file) if crate in CRATES else crate
     return found

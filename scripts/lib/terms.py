@@ -120,6 +120,8 @@ class Terms:
             return self.expression(given[0], None)[0].replace(' == ', ' != '), BOOL
         if word == 'Some':
             return f'Some({self.value(given[0], inner(kind))})', kind
+        if word == 'replicate':
+            return f'[{given[1]}; {given[0]}]', kind
         if word in STD:
             of, has = self.expression(given[0], None)
             rest = [self.value(one, inner(has)) for one in given[1:]]

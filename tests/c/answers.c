@@ -146,7 +146,7 @@ static void print_devices(const struct zacpi_source *source) {
     ONE("image", struct zacpi_boot_graphic, zacpi_get_boot_graphic, IT, "%llx %u\n", (wide)it->address, it->image_type);
     if (!zacpi_get_console(source, &console, &named)) {
         print_register("console", &console.base);
-        printf("console %u %u %u %u %x\n", console.interface, console.parity, console.stop_bits,
+        printf("console %u %u %u %u %x\n", console.interface_type, console.parity, console.stop_bits,
                console.clock_frequency, console.pci_flags);
         printf("console %x %x %u %u %u %u\n", console.pci_vendor_id, console.pci_device_id, console.pci_segment,
                console.pci_bus, console.pci_device, console.pci_function);

@@ -21,10 +21,12 @@ static inline void print_error(const char *name, zacpi_status status, const stru
     putchar('\n');
 }
 
-/* All fields of a record, in the order of its struct. */
+/* All fields of a record, in the order of its struct; of the reserved ones those that aren't 0. */
 static inline void print_fields(const struct field *fields, const void *record) {
-    for (; fields->size; fields++)
-        printf(" %llx", (unsigned long long)number_at((const uint8_t *)record + fields->at, fields->size));
+    for (; fields->size; fields++) {
+        const uint64_t number = number_at((const uint8_t *)record + fields->at, fields->size);
+        if (!fields->is_reserved || number) printf(" %llx", (unsigned long long)number);
+    }
     putchar('\n');
 }
 

@@ -4,11 +4,14 @@
 
 struct field {
     size_t at, size; /* size 0: the end */
+    int is_reserved;
 };
 #define F(type, name) \
-    { offsetof(type, name), sizeof((type *)0)->name }
+    { offsetof(type, name), sizeof((type *)0)->name, 0 }
+#define ZERO(type, name) \
+    { offsetof(type, name), sizeof((type *)0)->name, 1 }
 #define END \
-    { 0, 0 }
+    { 0, 0, 0 }
 #define FIELDS(name, ...) static const struct field name[] = {__VA_ARGS__, END}
 
 static inline uint64_t number_at(const uint8_t *bytes, size_t size) {

@@ -9,7 +9,7 @@
 #define FOUR_GIB ((uint64_t)1 << 32)
 enum { CHUNK = 0x10000 * 33 }; /* a multiple of each page's size, and of each record's */
 
-static const struct zacpi_table_ids ids = {{'G'}, {'M'}, 0, {'Z'}, 0};
+static const struct zacpi_table_ids ids = {{'G'}, {'M'}, {0}, 0, {'Z'}, 0};
 
 static void *skipped(void) {
     puts("skipped: there isn't so much address space");
@@ -35,9 +35,8 @@ static void *repeated(const void *record, size_t size, uint64_t length) {
 /* GICC Affinities have 18 bytes each, after 48 and these Memory Affinities of 40 bytes. */
 static zacpi_status srat_of(size_t memory, size_t giccs, uint8_t *to, size_t capacity, size_t *length) {
     static const struct zacpi_gicc_domain domain = {1, 2};
-    static const struct zacpi_memory_affinity ranges[7] = {{0, 1, 0, 0, 0}, {0, 1, 0, 0, 0}, {0, 1, 0, 0, 0},
-                                                           {0, 1, 0, 0, 0}, {0, 1, 0, 0, 0}, {0, 1, 0, 0, 0},
-                                                           {0, 1, 0, 0, 0}};
+    static const struct zacpi_memory_affinity ranges[7] = {{.length = 1}, {.length = 1}, {.length = 1}, {.length = 1},
+                                                           {.length = 1}, {.length = 1}, {.length = 1}};
     const struct zacpi_srat_contents given = {NULL,  0,      repeated(&domain, sizeof domain, giccs * sizeof domain),
                                               giccs, ranges, memory};
     return zacpi_write_srat(&ids, &given, to, capacity, length);
@@ -90,7 +89,7 @@ static zacpi_status exact_gtdt(uint8_t *to, size_t capacity, size_t *length) {
 static zacpi_status long_xsdt(uint8_t *to, size_t capacity, size_t *length) {
     static const uint8_t oem[36] = {'O', 'E', 'M', '9', 36, 0, 0, 0, 1, 0xc1};
     const struct zacpi_listed_table table = {oem, 36};
-    struct zacpi_machine machine = {ids, NULL, 0x1ffffffc, NULL, 0, NULL, 0};
+    struct zacpi_machine machine = {ids, {0}, NULL, 0x1ffffffc, NULL, 0, NULL, 0};
     machine.tables = repeated(&table, sizeof table, 0x1ffffffc * (uint64_t)sizeof table);
     (void)to, (void)capacity;
     return zacpi_tables_size(&machine, length);

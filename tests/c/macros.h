@@ -1,6 +1,7 @@
 /* SPDX-License-Identifier: MIT */
-/* Macros that headers of Linux, Xen, U-Boot or SeaBIOS define, which come before a file of their trees: the names that
- * are words of C's, of the compiler's attributes, or short, with what they mean there. */
+/* Macros that headers of Linux, Xen, U-Boot, SeaBIOS, Windows or EDK2 define, or a compiler itself, which come before a
+ * file of their trees: the names that are words of C's, of the compiler's attributes, or short, with what they mean
+ * there. */
 #ifndef MACROS_H
 #define MACROS_H
 
@@ -81,6 +82,36 @@
 #define COLD 1
 #define INLINE 1
 #define current (get_current())
+#define interface struct
+#define near
+#define far
+#define small char
+#define hyper long long
+#define pascal
+#define cdecl
+#define IN
+#define OUT
+#define OPTIONAL
+#define CONST const
+#define VOID void
+#define STATIC static
+#define EFIAPI
+#define ERROR 0
+#define DELETE 0x10000
+#define NO_ERROR 0
+#define NO_ADDRESS 11004
+#define INTERFACE IUnknown
+#define REGISTERED 1
+#define unix 1
+#define linux 1
+#define i386 1
+#define arm 1
+#define mips 1
+#define sun 1
+#define errno (*errno_at())
+#define stdin stdin
+#define major(device) ((device) >> 8)
+#define minor(device) ((device)&0xff)
 #define cpu_to_le32(x) (x)
 #define le32_to_cpu(x) (x)
 #define xchg(at, value) __atomic_exchange_n(at, value, __ATOMIC_SEQ_CST)

@@ -97,7 +97,7 @@ static void map_nothing(void) {
 }
 
 int main(int argc, char **argv) {
-    static const struct zacpi_table_ids named = {"ZACPI", "NULLS", 1, {'Z', 'F', 'I', 'R'}, 1};
+    static const struct zacpi_table_ids named = {"ZACPI", "NULLS", {0}, 1, {'Z', 'F', 'I', 'R'}, 1};
     if (!edge_of(argc, argv)) return 2;
     ids = COPIED(named);
     memory = painted_at_edge(SIZE);

@@ -12,15 +12,17 @@ static volatile void *map(uint64_t address) {
     return address < MAPPED ? (volatile uint8_t *)registers + address : NULL;
 }
 static struct zacpi_step step(uint64_t address, uint8_t width, uint32_t mask, uint32_t value, uint8_t kind) {
-    struct zacpi_step made = {{{0, ZACPI_SPACE_SYSTEM_MEMORY, 0, 0, 0}, 1}, 0, 0, 0, 0};
-    made.at.at.address = address;
+    struct zacpi_step made;
+    memset(&made, 0, sizeof made);
+    made.at.at.address = address, made.at.at.space = ZACPI_SPACE_SYSTEM_MEMORY, made.at.present = 1;
     made.mask = mask, made.value = value, made.width = width, made.kind = kind;
     return made;
 }
 /* Runs a step between two others: so many of the three have to be run, and the first register has to be this then. */
 static void check(const char *name, struct zacpi_step tried, uint32_t run, uint16_t first) {
-    struct zacpi_plan plan = {{{{{0, 0, 0, 0, 0}, 0}, 0, 0, 0, 0}}, 3};
+    struct zacpi_plan plan;
     uint32_t done;
+    plan.count = 3;
     registers[0] = 0x8a05, registers[1] = 0, registers[2] = 0;
     plan.steps[0] = step(2, 16, 0xffff, 0x1234, ZACPI_STEP_WRITE);
     plan.steps[1] = tried;
@@ -33,8 +35,9 @@ static void check(const char *name, struct zacpi_step tried, uint32_t run, uint1
 
 /* Runs a plan that writes 0x56 and then waits for bit 0: so many steps are run, and this has to be written. */
 static void check_last(const char *name, uint16_t bit, uint32_t run, uint16_t written) {
-    struct zacpi_plan plan = {{{{{0, 0, 0, 0, 0}, 0}, 0, 0, 0, 0}}, 2};
+    struct zacpi_plan plan;
     uint32_t done;
+    plan.count = 2;
     registers[0] = bit, registers[2] = 0;
     plan.steps[0] = step(4, 8, 0xff, 0x56, ZACPI_STEP_WRITE);
     plan.steps[1] = step(0, 16, 1, 1, ZACPI_STEP_WAIT);

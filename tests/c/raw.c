@@ -166,10 +166,10 @@ static void walks_a_hest(void) {
  * bytes, whose string ends with a zero and has an even length with it, and two Hart Info Nodes of 16, whose one offset
  * is that node's. */
 static void reads_an_rhct(void) {
-    static const struct zacpi_table_ids ids = {{'G'}, {'M'}, 1, {'Z'}, 1};
+    static const struct zacpi_table_ids ids = {{'G'}, {'M'}, {0}, 1, {'Z'}, 1};
     static const uint32_t harts[] = {7, 0x01020304};
     const struct zacpi_rhct_contents contents = {
-        (const uint8_t *)at_edge("rv64i", 5), 5, COPIED(harts), 2, 10000000, 1};
+        (const uint8_t *)at_edge("rv64i", 5), 5, COPIED(harts), 2, 10000000, 1, {0}};
     enum { SIZE_OF_RHCT = 56 + 14 + 2 * 16 };
     uint8_t *const table = (uint8_t *)painted_at_edge(SIZE_OF_RHCT);
     size_t *const length = PAINTED(size_t), at = 56, i;

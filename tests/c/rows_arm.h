@@ -22,8 +22,8 @@ static const struct zacpi_gt_frame many_frames[1638];
 #define NO_WATCHDOG {9, 9, 9, 9, 9, 9}
 #define WATCHDOG_OF(polarity, trigger) {0x2a450000, 0x12a440000, 829, polarity, trigger, 255}
 static const struct zacpi_platform_timer platform_timers[] = {
-    {1, 9, many_frames, 1638, WATCHDOG_OF(ZACPI_POLARITY_LOW, ZACPI_TRIGGER_LEVEL)},
-    {0, 0x2a810000, gt_frames, 2, NO_WATCHDOG}, {0, 0x100, gt_frames, 0, NO_WATCHDOG}};
+    {1, {0}, 9, many_frames, 1638, WATCHDOG_OF(ZACPI_POLARITY_LOW, ZACPI_TRIGGER_LEVEL)},
+    {0, {0}, 0x2a810000, gt_frames, 2, NO_WATCHDOG}, {0, {0}, 0x100, gt_frames, 0, NO_WATCHDOG}};
 #define EL2(...) {26, LEVEL_HIGH, 0, 1}, __VA_ARGS__
 static const struct zacpi_gtdt_contents all_timers = {
     {0x0102030405060708, 0xf1f2f3f4f5f6f7f8, EL1_TIMERS, EL2({28, LEVEL_LOW, 1, 255}), 9}, platform_timers, 0};

@@ -86,26 +86,27 @@ typedef struct { model model; zacpi_size counts[5]; processor processors[5]; io_
 
 #include "rows_fields.h"
 
-FIELDS(one_byte, {0, 1});
-FIELDS(four_bytes, {0, 4});
-FIELDS(eight_bytes, {0, 8});
+FIELDS(one_byte, {0, 1, 0});
+FIELDS(four_bytes, {0, 4, 0});
+FIELDS(eight_bytes, {0, 8, 0});
 
 #define OF_PROCESSOR(n) F(whole_model, processors[n].uid), F(whole_model, processors[n].local_apic_id), \
     F(whole_model, processors[n].state), F(whole_model, processors[n].is_boot), \
     F(whole_model, processors[n].is_online_capable), F(whole_model, processors[n].is_x2apic)
 #define OF_IO_APIC(n) F(whole_model, io_apics[n].address), F(whole_model, io_apics[n].global_system_interrupt_base), \
-    F(whole_model, io_apics[n].id)
+    F(whole_model, io_apics[n].id), ZERO(whole_model, io_apics[n].reserved)
 #define OF_OVERRIDE(n) F(whole_model, overrides[n].global_system_interrupt), F(whole_model, overrides[n].isa_source), \
     F(whole_model, overrides[n].polarity), F(whole_model, overrides[n].trigger), F(whole_model, overrides[n].bus)
 #define OF_NMI_SOURCE(n) F(whole_model, nmi_sources[n].global_system_interrupt), \
-    F(whole_model, nmi_sources[n].polarity), F(whole_model, nmi_sources[n].trigger)
+    F(whole_model, nmi_sources[n].polarity), F(whole_model, nmi_sources[n].trigger), \
+    ZERO(whole_model, nmi_sources[n].reserved)
 #define OF_NMI_LINE(n) F(whole_model, nmi_lines[n].processor_uid), F(whole_model, nmi_lines[n].of_all), \
     F(whole_model, nmi_lines[n].lint), F(whole_model, nmi_lines[n].polarity), F(whole_model, nmi_lines[n].trigger)
 FIELDS(of_whole_model, F(whole_model, model.local_apic_address), F(whole_model, model.io_apics),
        F(whole_model, model.overrides), F(whole_model, model.nmi_sources), F(whole_model, model.nmi_lines),
        F(whole_model, model.processors), F(whole_model, model.known), F(whole_model, model.also_has_8259),
-       F(whole_model, counts[0]), F(whole_model, counts[1]), F(whole_model, counts[2]), F(whole_model, counts[3]),
-       F(whole_model, counts[4]),
+       ZERO(whole_model, model.reserved), F(whole_model, counts[0]), F(whole_model, counts[1]),
+       F(whole_model, counts[2]), F(whole_model, counts[3]), F(whole_model, counts[4]),
        OF_PROCESSOR(0), OF_PROCESSOR(1), OF_PROCESSOR(2), OF_PROCESSOR(3), OF_PROCESSOR(4), OF_IO_APIC(0),
        OF_IO_APIC(1), OF_OVERRIDE(0), OF_OVERRIDE(1), OF_NMI_SOURCE(0), OF_NMI_SOURCE(1), OF_NMI_SOURCE(2),
        OF_NMI_LINE(0), OF_NMI_LINE(1), OF_NMI_LINE(2), OF_NMI_LINE(3));

@@ -4,11 +4,11 @@
 #define ROWS_CONTENTS_H
 
 static const struct zacpi_table_ids makers = {{'G', 'U', 'E', 'S', 'T', ' '}, {'M', 'A', 'C', 'H', 'I', 'N', 'E', ' '},
-                                              0x01020304, {'Z', 'U', 'G', 'Z'}, 0x05060708};
+                                              {0}, 0x01020304, {'Z', 'U', 'G', 'Z'}, 0x05060708};
 /* The names are made of bytes that aren't UTF-8, one after the other. */
-static const struct zacpi_table_ids no_oem = {{'G', 'U', 'E', 'S', 'T', 0xff}, {'M'}, 0, {'Z'}, 0};
-static const struct zacpi_table_ids no_table_id = {{'G'}, {0x80}, 0, {'Z'}, 0};
-static const struct zacpi_table_ids no_creator = {{'G'}, {'M'}, 0, {'Z', 0xc3, 'Z', 'Z'}, 0};
+static const struct zacpi_table_ids no_oem = {{'G', 'U', 'E', 'S', 'T', 0xff}, {'M'}, {0}, 0, {'Z'}, 0};
+static const struct zacpi_table_ids no_table_id = {{'G'}, {0x80}, {0}, 0, {'Z'}, 0};
+static const struct zacpi_table_ids no_creator = {{'G'}, {'M'}, {0}, 0, {'Z', 0xc3, 'Z', 'Z'}, 0};
 static const struct zacpi_table_ids *ids = &makers;
 
 /* Signature, Length, Revision, Checksum; OEMID, OEM Table ID; OEM Revision, Creator ID, Creator Revision. */
@@ -84,11 +84,12 @@ static const struct zacpi_boot_graphic no_bitmap = {0, 0, 0, 90, 1, 1};
 static const struct zacpi_spcr_contents gic_console = {
     {.base = {{0x0807060504030201, 0, 32, 0, 3}, 1}, .baud_rate = 115200, .global_system_interrupt = 0x14131211,
      .clock_frequency = 0x64636261, .pci_flags = 0x84838281, .pci_device_id = 0x2221, .pci_vendor_id = 0x3231,
-     .interface = 3, .irq = 4, .has_irq = 255, .has_global_system_interrupt = 255, .has_baud_rate = 255, .stop_bits = 1,
+     .interface_type = 3, .irq = 4, .has_irq = 255, .has_global_system_interrupt = 255, .has_baud_rate = 255,
+     .stop_bits = 1,
      .pci_segment = 0x51, .pci_bus = 0x41, .pci_device = 0x1f, .pci_function = 7}, 8, 2, 3};
 static const struct zacpi_spcr_contents no_console = {
     {.base = {{0x3f8, 0x0b, 8, 0, 5}, 0}, .baud_rate = 9600, .global_system_interrupt = 6, .pci_device_id = 0xffff,
-     .pci_vendor_id = 0xffff, .interface = 0x16, .irq = 5, .parity = 0xfe, .stop_bits = 0xfd}, 255, 255, 255};
+     .pci_vendor_id = 0xffff, .interface_type = 0x16, .irq = 5, .parity = 0xfe, .stop_bits = 0xfd}, 255, 255, 255};
 static const struct zacpi_spcr_contents pc_console = {
     {.base = {{0x3f8, 1, 8, 0, 1}, 1}, .baud_rate = 9600, .global_system_interrupt = 4, .clock_frequency = 1843200,
      .pci_device_id = 0xffff, .pci_vendor_id = 0xffff, .irq = 4, .has_irq = 1, .has_global_system_interrupt = 1,

@@ -101,8 +101,8 @@ static void check_no_byte(unsigned width) {
 /* ---- A watchdog in whose fields no two bytes are the same (section 5.2.24.1.2) ----------------------------------- */
 
 static void check_whole_watchdog(void) {
-    const struct zacpi_platform_timer watchdog = {1, 0, NULL, 0, {0x1817161514131211, 0x2827262524232221, 0x34333231,
-                                                  ZACPI_POLARITY_LOW, ZACPI_TRIGGER_EDGE, 1}};
+    const struct zacpi_platform_timer watchdog = {1, {0}, 0, NULL, 0, {0x1817161514131211, 0x2827262524232221,
+                                                  0x34333231, ZACPI_POLARITY_LOW, ZACPI_TRIGGER_EDGE, 1, 0}};
     struct zacpi_gtdt_contents given = all_timers;
     uint8_t bytes[132] = {0};
     size_t *counted = paint_size(&out_count);

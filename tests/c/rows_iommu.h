@@ -18,12 +18,13 @@ typedef struct zacpi_ivrs_entry ivrs_entry;
 FIELDS(of_dmar_scope, F(dmar_scope, path_length), F(dmar_scope, scope_type), F(dmar_scope, flags),
        F(dmar_scope, enumeration_id), F(dmar_scope, bus), F(dmar_scope, path[0].device),
        F(dmar_scope, path[0].function), F(dmar_scope, path[1].device), F(dmar_scope, path[1].function),
-       F(dmar_scope, path[15].device), F(dmar_scope, path[15].function));
+       F(dmar_scope, path[15].device), F(dmar_scope, path[15].function), ZERO(dmar_scope, reserved));
 /* Of Unique ID the first eight bytes, and the last one that there is room for. */
 FIELDS(of_ivrs_entry, F(ivrs_entry, entry_type), F(ivrs_entry, first), F(ivrs_entry, last), F(ivrs_entry, settings),
        F(ivrs_entry, source_id), F(ivrs_entry, extended_settings), F(ivrs_entry, handle), F(ivrs_entry, variety),
        F(ivrs_entry, hardware_id), F(ivrs_entry, compatible_id), F(ivrs_entry, unique_id_format),
-       F(ivrs_entry, unique_id_length), {offsetof(ivrs_entry, unique_id), 8}, F(ivrs_entry, unique_id[31]));
+       F(ivrs_entry, unique_id_length), {offsetof(ivrs_entry, unique_id), 8, 0}, F(ivrs_entry, unique_id[31]),
+       ZERO(ivrs_entry, reserved));
 
 /* Its arguments are a device's segment and bus, how many hops it is from there, and two bytes for each hop. */
 #define DEVICE ARGUMENT(0, uint16_t) ARGUMENT(1, uint8_t) hops(r), ARGUMENT(2, size_t)

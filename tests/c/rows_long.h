@@ -52,7 +52,7 @@ LONG(a_long_mcfg, mcfg, (const struct zacpi_pci_region *)(const void *)untouched
 #define LONG_MACHINE(verb, answer) \
     static zacpi_status verb(size_t *length) { \
         const struct zacpi_aml_contents dsdt = {untouched, (size_t)(FOUR_GIB - 36), 2}; \
-        const struct zacpi_machine machine = {makers, NULL, 0, &dsdt, 1, NULL, 0}; \
+        const struct zacpi_machine machine = {makers, {0}, NULL, 0, &dsdt, 1, NULL, 0}; \
         return answer; \
     }
 LONG_MACHINE(a_long_machine, zacpi_write_tables(&machine, 0x7fe00000, untouched, (size_t)FOUR_GIB, length))
@@ -69,7 +69,7 @@ LONG_FRONT(a_long_front_of_dsdt, dsdt, front_of_dsdt)
 LONG_FRONT(a_long_front_of_ssdt, ssdt, front_of_ssdt)
 static zacpi_status a_long_front_of_a_machine(size_t *length) {
     const struct zacpi_aml_contents dsdt = {front_of_dsdt, (size_t)(FOUR_GIB + 64), 2};
-    const struct zacpi_machine machine = {makers, NULL, 0, &dsdt, 1, NULL, 0};
+    const struct zacpi_machine machine = {makers, {0}, NULL, 0, &dsdt, 1, NULL, 0};
     return zacpi_tables_size(&machine, length);
 }
 
@@ -80,7 +80,7 @@ static zacpi_status a_long_front_of_a_machine(size_t *length) {
  * code that goes through them would come to where none is, so with ROWS_READ_ITEMS such lists are left out. */
 static const struct zacpi_processor of_all[] = {{0xffffffff, 1, ZACPI_PROCESSOR_RUNNING, 0, 0, 0}};
 static const struct zacpi_gic_cpu_interface no_mode[] = {{0, 0, 0, 0, 0, 0, 1, 2, 0, 0, 0, 0, 0, 0, 0, 2, 1, 0}};
-static const struct zacpi_platform_timer no_kind[] = {{2, 0, NULL, 0, NO_WATCHDOG}};
+static const struct zacpi_platform_timer no_kind[] = {{2, {0}, 0, NULL, 0, NO_WATCHDOG}};
 static const struct zacpi_gt_frame no_frame[] = {{0, 0, 0, 0, 0, 0, 2, 1, 1, 1, 0, 0}};
 #define OF_2_32(verb, call, type, base, list, items) \
     static zacpi_status verb(size_t *length) { \
@@ -115,21 +115,21 @@ LONG(all_of_a_table, table, tpm2, 4, untouched, (size_t)FOUR_GIB)
 LONG(all_of_an_mcfg, mcfg, (const struct zacpi_pci_region *)(const void *)untouched, (size_t)FOUR_GIB)
 LONG(no_matrix, slit, 0, untouched, (size_t)FOUR_GIB)
 static zacpi_status all_frames(size_t *length) {
-    const struct zacpi_platform_timer block = {0, 0, no_frame, (size_t)FOUR_GIB, NO_WATCHDOG};
+    const struct zacpi_platform_timer block = {0, {0}, 0, no_frame, (size_t)FOUR_GIB, NO_WATCHDOG};
     struct zacpi_gtdt_contents contents = all_timers;
     contents.platform_timers = &block, contents.platform_timers_length = 1;
     return zacpi_write_gtdt(ids, &contents, untouched, (size_t)(FOUR_GIB + 64), length);
 }
 static zacpi_status all_listed(size_t *length) {
     static const struct zacpi_listed_table unsummed = {unsummed_bytes, 36};
-    const struct zacpi_machine machine = {makers, &unsummed, (size_t)FOUR_GIB, NULL, 0, NULL, 0};
+    const struct zacpi_machine machine = {makers, {0}, &unsummed, (size_t)FOUR_GIB, NULL, 0, NULL, 0};
     return zacpi_tables_size(&machine, length);
 }
 /* A table of 36 bytes, as which so many more are listed. */
 #define LONG_LISTED(verb, answer) \
     static zacpi_status verb(size_t *length) { \
         static const struct zacpi_listed_table listed = {oem_bytes, (zacpi_size)(FOUR_GIB + 36)}; \
-        const struct zacpi_machine machine = {makers, &listed, 1, NULL, 0, NULL, 0}; \
+        const struct zacpi_machine machine = {makers, {0}, &listed, 1, NULL, 0, NULL, 0}; \
         return answer; \
     }
 LONG_LISTED(a_long_listed_machine, zacpi_write_tables(&machine, 0x7fe00000, untouched, (size_t)FOUR_GIB, length))
@@ -186,7 +186,7 @@ static void check_written_to_all(const struct written_row *rows_of, size_t count
  * filled up, and the FACS 128. */
 static void check_large_machine(void) {
     const struct zacpi_aml_contents dsdt = {untouched, (size_t)(FOUR_GIB - 37), 2};
-    const struct zacpi_machine machine = {makers, NULL, 0, &dsdt, 1, &facs, 1};
+    const struct zacpi_machine machine = {makers, {0}, NULL, 0, &dsdt, 1, &facs, 1};
     size_t *length = paint_size(&out_count);
     const zacpi_status got = zacpi_tables_size(&machine, length);
     result(!got && *length == (size_t)(FOUR_GIB + 48 + 48 + 128), "a large machine", 0, 0, got);
@@ -200,7 +200,7 @@ static void check_first_of_many(void) {
     size_t i;
     for (i = 0; i < sizeof shifts / sizeof *shifts; i++) {
         const zacpi_size many = (zacpi_size)1 << shifts[i];
-        const struct zacpi_machine machine = {makers, NULL, 0, &dsdt, many, &facs, many};
+        const struct zacpi_machine machine = {makers, {0}, NULL, 0, &dsdt, many, &facs, many};
         size_t *length = paint_size(&out_count);
         const zacpi_status got = zacpi_tables_size(&machine, length);
         result(!got && *length == 48 + 48 + 48 + 128, "many DSDTs and FACSs", (int)shifts[i], 0, got);

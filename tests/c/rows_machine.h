@@ -193,7 +193,7 @@ static const struct zacpi_aml_contents some_aml = {LISTED(code), 2}, whole_dsdt 
 /* What a call of machines gives for these tables, and the machine's size. */
 static zacpi_status on_machine(const struct zacpi_listed_table *tables, size_t count, size_t dsdts, size_t facs_count,
                                uint64_t address, int has_rsdp, uint8_t *to, size_t room, size_t *length) {
-    const struct zacpi_machine machine = {*ids, tables, count, &some_aml, dsdts, &facs, facs_count};
+    const struct zacpi_machine machine = {*ids, {0}, tables, count, &some_aml, dsdts, &facs, facs_count};
     size_t size = UNCOUNTED;
     zacpi_status got;
     if (!has_rsdp) return zacpi_write_tables_without_rsdp(&machine, address, to, room, length);
@@ -220,7 +220,7 @@ MACHINE(a_machine_of_firmware, on_two(LISTED(bgrt_bytes), LISTED(spcr_bytes), to
 MACHINE(a_machine_of_an_oem, on_machine(&oem_table, 1, 0, 0, 0x7fe00000, 1, to, room, length))
 /* The DSDT's AML is a table, with its header. */
 static zacpi_status a_machine_of_a_whole_dsdt(uint8_t *to, size_t room, size_t *length) {
-    const struct zacpi_machine machine = {*ids, NULL, 0, &whole_dsdt, 1, NULL, 0};
+    const struct zacpi_machine machine = {*ids, {0}, NULL, 0, &whole_dsdt, 1, NULL, 0};
     return zacpi_write_tables(&machine, 0x7fe00000, to, room, length);
 }
 /* The second table isn't one: it has no whole header, more bytes than its Length says, fewer, or a sum of 0xff. */

@@ -60,9 +60,9 @@ static const struct zacpi_processor small_one = {7, 2, ZACPI_PROCESSOR_RUNNING, 
                                     x2_one = {0, 0x01020304, ZACPI_PROCESSOR_DISABLED, 0, 1, 1};
 static const struct zacpi_nmi_line one_line = {0, 0, 1, ZACPI_POLARITY_LOW, ZACPI_TRIGGER_BUS},
                                    x2_line = {0, 0, 1, ZACPI_POLARITY_HIGH, ZACPI_TRIGGER_LEVEL};
-static const struct zacpi_platform_timer many_watchdogs = {1, 9, gt_frames, 2, {0x2a450000, 0x12a440000, 0, EDGE_LOW,
-                                                                                1}};
-static const struct zacpi_platform_timer many_blocks = {0, 0, gt_frames, 0, NO_WATCHDOG};
+static const struct zacpi_platform_timer many_watchdogs = {1, {0}, 9, gt_frames, 2, {0x2a450000, 0x12a440000, 0,
+                                                                                     EDGE_LOW, 1}};
+static const struct zacpi_platform_timer many_blocks = {0, {0}, 0, gt_frames, 0, NO_WATCHDOG};
 static const struct zacpi_memory_affinity memory_of_2 = {0x0102030405060708, 0x1112131415161718, 0, 1, 1};
 static const struct zacpi_pci_region one_region = {0, 0x0102, 16, 31};
 static const uint8_t small_one_entry[] = {0, 8, 0, 2, 1, 0, 0, 0},
@@ -195,14 +195,14 @@ static zacpi_status an_isa(const void *items, size_t count, uint8_t *to, size_t 
 /* The frames of a GT Block after a watchdog: Length at 1, Timer Count at 12; of each CntBaseX at 4, interrupts at 20
  * and 28 (section 5.2.24.1.1). */
 static zacpi_status a_block(const void *items, size_t count, uint8_t *to, size_t capacity, size_t *length) {
-    const struct zacpi_platform_timer both[] = {many_watchdogs, {0, 0x100, items, count, NO_WATCHDOG}};
+    const struct zacpi_platform_timer both[] = {many_watchdogs, {0, {0}, 0x100, items, count, NO_WATCHDOG}};
     struct zacpi_gtdt_contents contents = all_timers;
     contents.platform_timers = both, contents.platform_timers_length = 2;
     return zacpi_write_gtdt(ids, &contents, to, capacity, length);
 }
 /* Tables of a machine, 48 bytes each, after an XSDT that lists them. */
 static zacpi_status a_tree_of(const void *items, size_t count, uint8_t *to, size_t capacity, size_t *length) {
-    const struct zacpi_machine machine = {makers, items, count, NULL, 0, NULL, 0};
+    const struct zacpi_machine machine = {makers, {0}, items, count, NULL, 0, NULL, 0};
     return zacpi_write_tables_without_rsdp(&machine, 0x1234567890, to, capacity, length);
 }
 

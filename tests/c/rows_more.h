@@ -51,7 +51,7 @@ static const struct zacpi_gt_frame other_frames[] = {
     {9, 0x2a830000, 0x2a840000, 313, 570, 1, LEVEL_LOW, EDGE_HIGH, 1, 0},
     {9, 0x12a850000, 0xffffffffffffffff, 315, 572, 2, LEVEL_HIGH, EDGE_LOW, 0, 1}};
 static const struct zacpi_platform_timer other_timers[] = {
-    {1, 9, many_frames, 0, {0x2a450000, 0x12a440000, 829, EDGE_HIGH, 0}}, {0, 0x2a810000, other_frames, 2,
+    {1, {0}, 9, many_frames, 0, {0x2a450000, 0x12a440000, 829, EDGE_HIGH, 0}}, {0, {0}, 0x2a810000, other_frames, 2,
     NO_WATCHDOG}};
 static const struct zacpi_gtdt_contents other_flags = {
     {0x0102030405060708, 0xf1f2f3f4f5f6f7f8, {29, EDGE_HIGH, 1, 0}, {30, LEVEL_LOW, 0, 1}, {27, LEVEL_HIGH, 0, 7},
@@ -100,7 +100,7 @@ static void lay_dsdts(void) {
 }
 static zacpi_status on_aml(const uint8_t *aml, size_t aml_length, uint8_t *to, size_t room, size_t *length) {
     const struct zacpi_aml_contents dsdt = {aml, aml_length, 2};
-    const struct zacpi_machine machine = {*ids, NULL, 0, &dsdt, 1, NULL, 0};
+    const struct zacpi_machine machine = {*ids, {0}, NULL, 0, &dsdt, 1, NULL, 0};
     return zacpi_write_tables(&machine, 0x7fe00000, to, room, length);
 }
 MACHINE(a_machine_of_no_aml, on_aml(NONE(code), to, room, length))
@@ -117,7 +117,7 @@ static void check_bad_tables(void) {
     size_t i, size = UNCOUNTED, *length;
     zacpi_status got;
     for (i = 0; i < sizeof tables / sizeof *tables; i++) {
-        const struct zacpi_machine machine = {*ids, tables + i, 1, &some_aml, 0, &facs, 0};
+        const struct zacpi_machine machine = {*ids, {0}, tables + i, 1, &some_aml, 0, &facs, 0};
         length = paint_size(&out_count);
         got = on_machine(tables + i, 1, 0, 0, 0x7fe00000, 0, (uint8_t *)paint(&out, 100), 100, length);
         result(got == ZACPI_BAD_TABLE && *length == UNCOUNTED, "a bad table", (int)i, 0, got);
@@ -127,7 +127,7 @@ static void check_bad_tables(void) {
     { /* a DSDT of 2^32 + 35 bytes, of whose AML the first four are read */
         static const uint8_t begin[4] = {0};
         static const struct zacpi_aml_contents too_long = {begin, UINT32_MAX, 2};
-        const struct zacpi_machine machine = {*ids, &not_listed, 0, &too_long, 1, &facs, 0};
+        const struct zacpi_machine machine = {*ids, {0}, &not_listed, 0, &too_long, 1, &facs, 0};
         got = zacpi_tables_size(&machine, &size);
         result(got == ZACPI_TOO_LONG && size == UNCOUNTED, "the size of a long DSDT", 0, 0, got);
     }
@@ -172,7 +172,7 @@ static void check_length(size_t aml, size_t body, int has_facs) {
     uint8_t table[36 + MOST_BODY], bytes[512];
     const struct zacpi_listed_table listed_so = {table, 36 + body};
     const struct zacpi_aml_contents dsdt = {aml_bytes, aml, 2};
-    const struct zacpi_machine machine = {makers, &listed_so, 1, &dsdt, 1, &facs, has_facs ? 1 : 0};
+    const struct zacpi_machine machine = {makers, {0}, &listed_so, 1, &dsdt, 1, &facs, has_facs ? 1 : 0};
     int has_rsdp;
     lay_table(table, oem_head, aml_bytes, body);
     for (has_rsdp = 0; has_rsdp < 2; has_rsdp++) {
@@ -203,7 +203,7 @@ static void check_machine_errors(void) {
     for (i = 0; i < 2; i++)
         for (k = 0; k < 4; k++) {
             const zacpi_status expects = k ? ZACPI_BAD_NAME : i ? ZACPI_OK : ZACPI_HAS_HEADER;
-            const struct zacpi_machine machine = {*not_texts[k], NULL, 0, dsdts + i, 1, &facs, 1};
+            const struct zacpi_machine machine = {*not_texts[k], {0}, NULL, 0, dsdts + i, 1, &facs, 1};
             size_t *length = paint_size(&out_count);
             zacpi_status got = zacpi_tables_size(&machine, length);
             result(got == expects && *length == (got ? UNCOUNTED : 48 + 48 + 48 + 128), "a size", (int)i, k, got);

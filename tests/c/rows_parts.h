@@ -15,6 +15,7 @@
 PART(list_processors_from, processor, of_processor)
 PART(list_gic_cpu_interfaces_from, interface, of_gic_cpu_interface)
 PART(list_rintcs_from, rintc, of_rintc)
+PART(list_memory_affinities_from, affinity, of_memory_affinity)
 PART(list_processor_affinities_from, near_processor, of_processor_affinity)
 
 /* From an item on there is none. */
@@ -57,6 +58,13 @@ static const struct row part_rows[] = {
     PAST(list_rintcs_from, RISCV, 2, 2),
     REFUSED(list_rintcs_from, PC, NULL, A(1, 0), ZACPI_NO_RISCV, NULL),
     REFUSED(list_rintcs_from, EMPTY, NULL, NO, ZACPI_TABLE_MISSING, "APIC"),
+
+    GOOD(list_memory_affinities_from, ARM, NULL, A(0, 2), 2, 0x100000000, 0x10000, 0x107, 1, 0,
+         0x100008000, 0x20000, 8, 0, 1),
+    GOOD(list_memory_affinities_from, ARM, NULL, A(1, 2), 1, 0x100008000, 0x20000, 8, 0, 1),
+    PAST(list_memory_affinities_from, ARM, 2, 2),
+    PAST(list_memory_affinities_from, HOLES, 0, 0),
+    REFUSED(list_memory_affinities_from, EMPTY, NULL, A(1, 0), ZACPI_TABLE_MISSING, "SRAT"),
 
     GOOD(list_processor_affinities_from, ARM, NULL, A(0, 4), 4, 9, 0x20105, 0, 0, 300, 12, 0, 2, 300, 13, 0, 2,
          17, 15, 0, 3),

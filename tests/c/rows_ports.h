@@ -11,7 +11,7 @@ static const struct port_byte {
     enum port_codes codes;
 } port_bytes[] = {
 #define PORT_BYTE(name, place, codes) {offsetof(port, name), place, codes}
-    PORT_BYTE(console.interface, 36, EACH_CODE), PORT_BYTE(console.base.at.space, 40, EACH_SPACE),
+    PORT_BYTE(console.interface_type, 36, EACH_CODE), PORT_BYTE(console.base.at.space, 40, EACH_SPACE),
     PORT_BYTE(console.base.at.bit_width, 41, EACH_CODE), PORT_BYTE(console.base.at.bit_offset, 42, EACH_CODE),
     PORT_BYTE(console.base.at.access_size, 43, EACH_ACCESS_SIZE), PORT_BYTE(console.irq, 53, EACH_CODE),
     PORT_BYTE(console.parity, 59, EACH_CODE), PORT_BYTE(console.stop_bits, 60, EACH_CODE),

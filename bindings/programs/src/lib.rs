@@ -1,5 +1,6 @@
 #![doc = include_str!("../README.md")]
-#![forbid(unsafe_code)]
+// All of it is in rattle/begun.rs.
+#![deny(unsafe_code)]
 
 // The proved crates of the programs, each as a module: made by scripts/erase.
 pub mod cli;

@@ -118,7 +118,7 @@ fn print_platform(tables: &Tables<'_>) {
     println!("platform profile {}", platform.power_profile.code());
     match &platform.interrupt_model {
         InterruptModel::Apic(apic) => print_apic(apic),
-        InterruptModel::Unknown => println!("model unknown"),
+        _ => println!("model unknown"),
     }
     if let Some(info) = &platform.processor_info {
         each([&info.boot_processor].into_iter().chain(&info.application_processors), print_processor);

@@ -1,7 +1,7 @@
 #![doc = include_str!("../README.md")]
 #![no_std]
 #![cfg_attr(feature = "allocator_api", feature(allocator_api))]
-#![deny(missing_docs, unsafe_code, unsafe_op_in_unsafe_fn)]
+#![deny(missing_debug_implementations, missing_docs, unnameable_types, unsafe_code, unsafe_op_in_unsafe_fn)]
 
 #[cfg(any(feature = "alloc", feature = "allocator_api"))]
 extern crate alloc as rust_alloc;

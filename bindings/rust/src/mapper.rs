@@ -22,10 +22,14 @@ use core::ptr::NonNull;
 ///     fn map(&self, range: AddressRange) -> Option<NonNull<u8>> {
 ///         // A firmware's address can't be trusted: the kernel's memory map decides.
 ///         let is_memory = range.address < 1 << 32 && range.length <= (1 << 32) - range.address;
-///         NonNull::new((self.0 + range.address) as *mut u8).filter(|_| is_memory)
+///         is_memory.then(|| self.0 + range.address).and_then(|at| NonNull::new(at as *mut u8))
 ///     }
 ///     unsafe fn unmap(&self, _: NonNull<u8>, _: AddressRange) {}
 /// }
+///
+/// // Nothing else is added to the kernel's address: in the upper half the sum would be above 2^64 - 1.
+/// let range = AddressRange { address: 0xffff_ffff_ffff_f000, length: 4096 };
+/// assert_eq!(Direct(0xffff_8000_0000_0000).map(range), None);
 /// ```
 ///
 /// # Safety

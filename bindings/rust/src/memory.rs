@@ -7,7 +7,7 @@ use crate::lists::refusal::Refusal;
 use crate::{AcpiHandler, AcpiResult};
 
 /// The memory of a [`Source`]'s regions.
-#[derive(Clone, Copy)]
+#[derive(Clone, Copy, Debug)]
 pub struct SourceMemory<'k>(Mapped<'k>);
 
 impl<'k> Source<'k> {

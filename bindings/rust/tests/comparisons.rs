@@ -16,7 +16,7 @@ use zacpi::sdt::Signature;
 use zacpi::sleep::{AmlError, Plan, PlanError, PlanStep, SleepAnswer, SleepError, SleepTypes, StepKind};
 use zacpi::spcr::SpcrInterfaceType;
 use zacpi::write::WriterError;
-use zacpi::{AcpiError, AddressRange, AmlTable, MadtError, PowerProfile, Sdt, TableFault};
+use zacpi::{AcpiError, AddressRange, AmlTable, MadtError, PowerProfile, Sdt};
 
 /// Checks that each value equals itself and its clone, and no other.
 fn check_apart<T: Copy + Debug + PartialEq>(name: &str, values: &[T]) {
@@ -113,7 +113,6 @@ fn records_are_apart() {
     });
     apart!(AddressRange { address: 1 => 3, length: 2 => 3 });
     apart!(AmlTable { address: 1 => 3, length: 2 => 3 });
-    apart!(TableFault { address: 1 => 3, error: AcpiError::MapFailed => AcpiError::AllocError });
     apart!(Sdt { physical_address: 1 => 3, length: 2 => 3, validated: false => true });
     apart!(GenericAddress {
         address_space: AddressSpace::SystemIo => AddressSpace::SystemMemory, bit_width: 16 => 8, bit_offset: 0 => 1,

@@ -2,9 +2,7 @@
 mod common;
 use common::{Memory, all, filled, plain, plains, with};
 use zacpi::AcpiError;
-use zacpi::iommu::{
-    Dmar, DmarFields, DmarStructureIter, DmarUnits, Hop, IommuError, Ivrs, IvrsBlockIter, IvrsBlocks, Satc,
-};
+use zacpi::iommu::{Dmar, DmarFields, DmarStructureIter, DmarUnits, Hop, IommuError, Ivrs, IvrsBlockIter, IvrsBlocks};
 use zacpi::lists::iommu_records::{DmarAffinity, DmarReserved, DmarRootPorts, DmarUnit, IvrsMemory, IvrsUnit};
 use zacpi::lists::{iommu, iommu_faults, iommu_lists, iommu_regions, refusal::Refusal};
 use zacpi::sdt::Signature;
@@ -79,8 +77,15 @@ fn reads_a_dmar() {
         assert_eq!((scopes[0].hops().collect::<Vec<_>>(), scopes[1].hops().count()), (vec![hop(0x1f, 0)], 0));
         assert!(!scopes[0].names(0xf0, &[hop(0x1f, 0)])); // Types 1 and 2 alone name devices
         assert_eq!(units.structures().count(), 6);
-        assert!(Satc { flags: 1, segment: 0 }.requires_cache() && !Satc { flags: 2, segment: 0 }.requires_cache());
     });
+    // A SATC, Type 5 of 8 bytes, with its Flags at 4.
+    let requires_cache = |flags| {
+        let mut table = [0; 56];
+        (table[48], table[50], table[52]) = (5, 8, flags);
+        let satc = DmarUnits::over(&table).structures().next().and_then(|it| it.fields());
+        if let Some(DmarFields::Satc(satc)) = satc { Some(satc.requires_cache()) } else { None }
+    };
+    assert_eq!([1, 2].map(requires_cache), [Some(true), Some(false)]);
 }
 
 /// Units have Size and Flags last.

@@ -6,8 +6,8 @@ extern crate zacpi as acpi;
 
 /// The start of a kernel, as it is in `kernel/zacpi.rs`.
 mod start {
-    /// Where the kernel has mapped physical memory.
-    const PHYSICAL_MEMORY: u64 = 0;
+    /// Where the kernel has mapped physical memory: an address of it that isn't memory may have no sum with it.
+    const PHYSICAL_MEMORY: u64 = 0xffff_8000_0000_0000;
 
     /// Whether the loader's memory map has these bytes: this machine has no memory.
     fn is_memory(_: u64, _: usize) -> bool {
@@ -31,7 +31,9 @@ mod start {
 
     #[test]
     fn a_kernel_without_memory_finds_no_tables() {
-        assert_eq!(start(&mut Kernel, 0xf0000), Err(AcpiError::MapFailed));
+        for rsdp in [0xf0000, usize::MAX] {
+            assert_eq!(start(&mut Kernel, rsdp), Err(AcpiError::MapFailed));
+        }
     }
 }
 

@@ -4,7 +4,7 @@ mod common;
 use common::{Memory, all, filled, plain, plains, with};
 use zacpi::AcpiError;
 use zacpi::alloc::Global;
-use zacpi::lists::numa_records::{GenericInitiator, ItsAffinity, Localities, MemoryAffinity, ProcessorAffinity};
+use zacpi::lists::numa_records::{GenericInitiator, ItsAffinity, MemoryAffinity, ProcessorAffinity};
 use zacpi::lists::{affinities, numa, refusal::Refusal, srat_faults};
 use zacpi::numa::srat::affinities_count;
 use zacpi::numa::{Distances, Domains, MemoryAffinities, NumaError, Slit, Srat, SratEntryIter};
@@ -72,7 +72,7 @@ fn reads_domains() {
         let list: Vec<GenericInitiator> = all(|out| affinities::srat_entries(source, out)).unwrap();
         assert_eq!(plains(&list), ["GenericInitiator 2 1 1 1 0 34 12 0 0 0 0 0 0 0 0 0 0 0 0"]);
         let list: Vec<ItsAffinity> = all(|out| affinities::srat_entries(source, out)).unwrap();
-        assert_eq!(list, [ItsAffinity { domain: 4, its_id: 0x11 }]);
+        assert_eq!(plains(&list), ["ItsAffinity 4 11"]);
         let none = Err(Refusal::NoDomain);
         assert_eq!([0x1fff, 0x2000, 0x4000].map(|at| numa::domain_of_address(source, at)), [Ok(1), Ok(2), none]);
         assert_eq!([3, 0x100, 4].map(|id| numa::domain_of_apic(source, id)), [Ok(0x105), Ok(6), none]);
@@ -113,7 +113,7 @@ fn reads_distances() {
         assert_eq!(distances, [Some(20), Some(255), Some(10), None, None]);
     });
     memory.list(|source| {
-        assert_eq!(numa::localities(source), Ok(Localities { localities: 2, is_sane: 1 }));
+        assert_eq!(numa::localities(source).map(|found| (found.localities, found.is_sane)), Ok((2, 1)));
         assert_eq!((numa::distance(source, 1, 0), numa::distance(source, 0, 2)), (Ok(255), Err(Refusal::NoDistance)));
     });
     let short = with("SLIT", 1, 45, &[(36, 8, 2), (44, 1, 10)]);

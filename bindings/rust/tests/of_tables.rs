@@ -43,7 +43,8 @@ impl Opened<'_> {
         let regions = self.source.regions.iter().map(|region| (region.address, region.bytes.len()));
         let mut listed = [Table::default(); 8];
         let count = tables(&self.source, &mut listed).unwrap();
-        let listed = listed[..count].iter().map(|table| (Signature::from_bytes(table.signature), table.address));
+        let listed =
+            listed[..count].iter().map(|table| (Signature::from_bytes(table.signature.letters), table.address));
         (listed.collect(), regions.collect())
     }
 

@@ -69,7 +69,7 @@ fn sleep_types_are_constants_of_aml() {
             Ok(SleepAnswer::Types(types)) if types.a.max(types.b) > 255 => Err(Refusal::SleepTypeTooHigh),
             Ok(SleepAnswer::Types(types)) => Ok((types.a, types.b)),
             Ok(SleepAnswer::Absent) => Err(Refusal::SleepStateAbsent),
-            Ok(SleepAnswer::NotSeen(_)) => Err(Refusal::SleepStateNotSeen),
+            Ok(_) => Err(Refusal::SleepStateNotSeen),
             Err(error) => Err(Refusal::from(error)),
         };
         assert_eq!(found, answer);

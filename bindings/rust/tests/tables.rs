@@ -65,7 +65,17 @@ fn range(address: u64, length: u64) -> AddressRange {
 /// A table as the calls of `lists` have it.
 fn record(address: u64, signature: &[u8; 4], length: u32, revision: u8) -> Table {
     let (oem_id, oem_table_id) = (*b"OEMID ", *b"HANDMADE");
-    Table { address, length, signature: *signature, revision, oem_id, oem_table_id, ..Table::default() }
+    zeros_but(|it: &mut Table| {
+        (it.address, it.length, it.signature, it.revision) = (address, length, named(signature), revision);
+        (it.oem_id, it.oem_table_id) = (oem_id, oem_table_id);
+    })
+}
+
+/// A record of zeros, but for the fields that are set.
+fn zeros_but<T: Default>(set: impl FnOnce(&mut T)) -> T {
+    let mut made = T::default();
+    set(&mut made);
+    made
 }
 
 fn named(letters: &[u8; 4]) -> zacpi::lists::records::Signature {
@@ -89,8 +99,12 @@ fn finds_and_lists_tables() {
         let expected = [(*b"FACP", 116, 1), (*b"SSDT", 37, 2), (*b"SSDT", 36, 1), (*b"DMAR", 61, 1)];
         assert_eq!(headers.collect::<Vec<_>>(), expected);
         assert_eq!(tables.addresses().collect::<Vec<_>>(), [FADT, BAD_SSDT, SSDT, OTHER_SSDT, DMAR]);
-        let fault = TableFault { address: BAD_SSDT, error: bad_sum(Signature::SSDT) };
+        let fault: TableFault = tables.faults::<Ssdt>().next().unwrap();
+        assert_eq!((fault.address, fault.error), (BAD_SSDT, bad_sum(Signature::SSDT)));
         assert_eq!(tables.faults::<Ssdt>().collect::<Vec<_>>(), [fault]);
+        let (mut elsewhere, mut otherwise) = (fault, fault);
+        (elsewhere.address, otherwise.error) = (SSDT, AcpiError::MapFailed);
+        assert!(fault != elsewhere && fault != otherwise);
         let members = tables.members().map(|it| (it.address, it.header.map(|header| header.length)));
         let bad = Err(bad_sum(Signature::SSDT));
         let expected = [(FADT, Ok(116)), (BAD_SSDT, bad), (SSDT, Ok(37)), (OTHER_SSDT, Ok(36)), (DMAR, Ok(61))];
@@ -141,14 +155,17 @@ fn fills_each_list() {
         assert_eq!(plains(&aml), ["AmlTable 103024 1 2 103000", "AmlTable 104024 0 1 104000"]);
         assert_eq!(lookups::dsdt(source).map(plain), Ok("AmlTable 102024 4 2 102000".into()));
         let found: Vec<Fault> = all(|out| faults::faults(source, named(b"SSDT"), out)).unwrap();
-        assert_eq!(found, [Fault { address: BAD_SSDT, status: 24, accepted: 0 }]);
+        assert_eq!(found, [zeros_but(|it: &mut Fault| (it.address, it.status) = (BAD_SSDT, 24))]);
         let ranges: Vec<Range> = all(|out| walks::ranges(source, out)).unwrap();
         assert_eq!((ranges.len(), ranges[5]), (6, Range { address: DSDT, length: 40 }));
         let list: Vec<Member> = all(|out| members::members(source, out)).unwrap();
-        assert_eq!(list[0], Member { table: expected[0], status: 0, has_header: 1 });
+        let member =
+            |table, status| zeros_but(|it: &mut Member| (it.table, it.status, it.has_header) = (table, status, 1));
+        assert_eq!(list[0], member(expected[0], 0));
         // Creator Revision is the header's last field.
-        let bad = Table { creator_revision: 0x0100_0000, ..record(BAD_SSDT, b"SSDT", 36, 1) };
-        assert_eq!((list.len(), list[1]), (5, Member { table: bad, status: 24, has_header: 1 }));
+        let mut bad = record(BAD_SSDT, b"SSDT", 36, 1);
+        bad.creator_revision = 0x0100_0000;
+        assert_eq!((list.len(), list[1]), (5, member(bad, 24)));
         assert_eq!(locate(source.regions, ROOT + 0xffff, 1).map(plain), Ok("Place 0 ffff".into()));
         let outside = [(ROOT + 0xffff, 2), (ROOT - 1, 2)].map(|(at, length)| locate(source.regions, at, length));
         assert_eq!(outside, [const { Err(Refusal::Acpi(AcpiError::MapFailed)) }; 2]);
@@ -194,11 +211,16 @@ fn opens_a_root_table() {
     // By the calls of `lists`: 0 is an RSDP, 1 an RSDT, 2 an XSDT, 3 and 4 are searches.
     let regions = [Region { address: ROOT, bytes: &memory.bytes }];
     let by = |start, address| opening::root(&Source { regions: &regions, address, start, accept: 0 });
-    let root = Root { address: ROOT, length: 56, revision: 0, pointer_width: 4, rsdp_address: 0, rsdp_length: 0 };
-    assert_eq!(by(1, ROOT), Ok(root));
-    assert_eq!(by(0, rsdp_0), Ok(Root { rsdp_address: rsdp_0, rsdp_length: 20, ..root }));
-    let root = Root { address: xsdt, length: 52, revision: 2, pointer_width: 8, ..root };
-    assert_eq!((by(2, xsdt), by(0, rsdp_2).map(|it| it.rsdp_length)), (Ok(root), Ok(36)));
+    let root = |address, length, revision, pointer_width| {
+        zeros_but(|it: &mut Root| {
+            (it.address, it.length, it.revision, it.pointer_width) = (address, length, revision, pointer_width)
+        })
+    };
+    let mut by_rsdp = root(ROOT, 56, 0, 4);
+    assert_eq!(by(1, ROOT), Ok(by_rsdp));
+    (by_rsdp.rsdp_address, by_rsdp.rsdp_length) = (rsdp_0, 20);
+    assert_eq!(by(0, rsdp_0), Ok(by_rsdp));
+    assert_eq!((by(2, xsdt), by(0, rsdp_2).map(|it| it.rsdp_length)), (Ok(root(xsdt, 52, 2, 8)), Ok(36)));
     let failures = [by(1, xsdt), by(3, 0), by(4, 0), by(5, 0)].map(|root| root.unwrap_err().to_string());
     assert_eq!(failures, ["SdtInvalidSignature RSDT", "MapFailed", "NoValidRsdp", "UnknownStart"]);
     let from = Source { regions: &regions, address: rsdp_2, start: 0, accept: 4 };

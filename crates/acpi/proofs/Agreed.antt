@@ -1,13 +1,13 @@
 -- Memories that agree on the ranges of a definition have the same answer of it: below a root table, and of what leads
 -- to one.
-use Rattle.std.proofs.Common.{◌≡◌, ℕ, List, [], ◌∷◌, ◌++◌, Option, Some, Result, Ok, Err, refl, ap, ◌∙◌, zero, suc, ◌+◌, None, filter_map, flat_map}
-use Rattle.acpi_base.specs.FromStd.{result_ok, option_or}
+use Rattle.std.proofs.Common.{◌≡◌, ℕ, Bool, true, false, ◌&&◌, if◌then◌else◌, List, [], ◌∷◌, ◌++◌, Option, Some, Result, Ok, Err, refl, ap, ◌∙◌, zero, suc, ◌+◌, None, filter_map, flat_map}
+use Rattle.acpi_base.specs.FromStd.{is_err, result_ok, option_or}
 use Rattle.acpi_base.proofs.Words.{each_back, each_front, same_own_table, same_table}
 use Rattle.acpi.specs.Types.{AcpiError, DSDT, Fadt, AddressRange}
-use Rattle.acpi_base.specs.Words.{accepted, mailbox_of, mcfg_entries_of, Memory, at, AgreesOn, DependsOn, Ranges, own_table_ranges, table_ranges, unless_found, ◌>>=◌, lent, Kind, plain_kind, table_at}
+use Rattle.acpi_base.specs.Words.{accepted, has_bit, mailbox_of, mcfg_entries_of, Memory, at, AgreesOn, DependsOn, Gives, Ranges, own_table_ranges, table_ranges, unless_found, ◌>>=◌, lent, Kind, plain_kind, table_at}
 use Rattle.acpi_fixed.specs.Words.{dsdt_address_of, facs_address_of, fadt_at}
 use Rattle.acpi.proofs.First.{here}
-use Rattle.acpi.specs.Words.{FootprintBelow, accepted_below, header_ranges, lookup_ranges, accepted_root_ranges, accepted_root_at, accept_of, accepted_by, accepted_dsdt, accepted_dsdt_ranges, by_accepted_fadt, by_accepted_fadt_ranges, accepted_opened, accepted_opened_ranges, platform_ranges, hpet_at, hpet_kind, info_of, hpet_of, or_later, fadt_kind, faults_of, own_header_at, stream_by, streams_by, unless_valid, valid_headers, lookup, found_at, kind_ranges, members_of, tables_found, mcfg_kind, found_regions, both_place_ranges, dsdt_place, dsdt_place_ranges, facs_at, facs_length_in, facs_place, facs_place_ranges, facs_ranges, by_first_fadt, dsdt_and_facs_ranges, place_at, place_ranges, places_of, madt_kind, platform_of, root_kind, root_of_revision, mailbox_found, kind_of, memory_of, pointers_of, root_address_of, root_of, AcpiTables, opened_at, opened_from, opened_by_rsdp, opened_by_search, area_ranges, length_ranges, opened_ranges, or_else_ranges, rsdp_ranges, search_ranges, walk_ranges, opened_by_rsdp_ranges, opened_by_search_ranges, check_whole, checked_length, root_of_rsdp, rsdp_at, count_of, first_area, found_in, found_rsdp, or_else, room_of, second_area, walk, word_in, Area, areas_ranges, count_in, first_in, found_among, found_in_areas, walk_in, opened_in_areas_ranges, opened_in_areas, last_in}
+use Rattle.acpi.specs.Words.{FootprintBelow, accepted_below, header_ranges, lookup_ranges, accepted_root_ranges, accepted_root_at, accept_of, accepted_by, accepted_dsdt, accepted_dsdt_ranges, by_accepted_fadt, by_accepted_fadt_ranges, accepted_opened, accepted_opened_ranges, platform_ranges, hpet_at, hpet_kind, info_of, hpet_of, or_later, fadt_kind, faults_of, own_header_at, stream_by, streams_by, unless_valid, valid_headers, lookup, found_at, kind_ranges, members_of, tables_found, mcfg_kind, found_regions, both_place_ranges, dsdt_place, dsdt_place_ranges, facs_at, facs_length_in, facs_place, facs_place_ranges, facs_ranges, by_first_fadt, dsdt_and_facs_ranges, place_at, place_ranges, places_of, madt_kind, platform_of, root_kind, root_of_revision, mailbox_found, kind_of, memory_of, pointers_of, root_address_of, root_of, AcpiTables, Opened, opened_at, opened_from, accepted_found_rsdp, accepted_in_areas, accepted_length, accepted_opened_by_rsdp, accepted_opened_by_rsdp_ranges, accepted_opened_by_search, accepted_opened_by_search_ranges, accepted_opened_in_areas, accepted_opened_in_areas_ranges, accepted_root, accepted_rsdp, accepted_rsdp_at, accepted_rsdp_ranges, accepted_search_ranges, area_ranges, check_extended, check_length, extended_length_of, extended_ranges, length_ranges, opened_ranges, or_else_ranges, reading_ranges, root_ranges_of, rsdp_of, walk_ranges, check_whole, count_of, first_area, found_in, or_else, room_of, second_area, walk, word_in, Area, areas_ranges, count_in, first_in, found_among, walk_in, last_in}
 use Rattle.acpi_base.specs.Ranges as ranges
 
 -- ---- lookups
@@ -250,49 +250,49 @@ same_check : (m n : Memory) (a : ℕ) (k : Option ℕ) → AgreesOn m n (length_
 same_check m n a None h = refl
 same_check m n a (Some k) h = rw h.0 refl
 
-pub same_rsdp : DependsOn rsdp_ranges rsdp_at
-unfolding rsdp_at
-same_rsdp m n a h =
-    rw (← h.0) (then_same m n (λ b. ranges.◌>>=◌ (checked_length b) (length_ranges a)) _ _
+pub same_rsdp : (accept : ℕ) → DependsOn (accepted_rsdp_ranges accept) (accepted_rsdp_at accept)
+unfolding accepted_rsdp_at
+same_rsdp accept m n a h =
+    rw (← h.0) (then_same m n (λ b. ranges.◌>>=◌ (accepted_length accept b) (length_ranges a)) _ _
     (λ b. then_same m n (length_ranges a) _ _ (λ k here. ap (λ r. r >>= λ _. Ok b) (same_check m n a k here))
-    (checked_length b)) (lent m a 36) h.1)
+    (accepted_length accept b)) (lent m a 36) h.1)
 
 -- ---- the search
 
-pub same_walk : (m n : Memory) (c a : ℕ) → AgreesOn m n (walk_ranges m c a) → walk n c a ≡ walk m c a
-same_walk m n zero a h = refl
-same_walk m n (suc c) a h =
-    let front = same_rsdp m n a (each_front _ (rsdp_ranges m a) _ h) in
-    let after = each_back _ (rsdp_ranges m a) _ h in
-    rw front (later_same m n (λ b. Some (a, b)) (rsdp_at m a) _ _ _ (same_walk m n c (a + 16)) after)
+pub same_walk : (accept : ℕ) (m n : Memory) (c a : ℕ) → AgreesOn m n (walk_ranges accept m c a) → walk accept n c a ≡ walk accept m c a
+same_walk accept m n zero a h = refl
+same_walk accept m n (suc c) a h =
+    let front = same_rsdp accept m n a (each_front _ (accepted_rsdp_ranges accept m a) _ h) in
+    let after = each_back _ (accepted_rsdp_ranges accept m a) _ h in
+    rw front (later_same m n (λ b. Some (a, b)) (accepted_rsdp_at accept m a) _ _ _ (same_walk accept m n c (a + 16)) after)
 
-same_area : (m n : Memory) (s : Area) → AgreesOn m n (area_ranges m s) → found_in n s ≡ found_in m s
+same_area : (accept : ℕ) (m n : Memory) (s : Area) → AgreesOn m n (area_ranges accept m s) → found_in accept n s ≡ found_in accept m s
 unfolding found_in
-same_area m n s h =
-    rw (← h.0) (then_same m n (λ _. walk_ranges m (count_of s) s.start) _ _
-    (λ _ here. rw (same_walk m n (count_of s) s.start here) refl) (lent m s.start (room_of s)) h.1)
+same_area accept m n s h =
+    rw (← h.0) (then_same m n (λ _. walk_ranges accept m (count_of s) s.start) _ _
+    (λ _ here. rw (same_walk accept m n (count_of s) s.start here) refl) (lent m s.start (room_of s)) h.1)
 
 -- the first area, and the second if the first has none
-same_areas : (m n : Memory) (word : ℕ)
-    → AgreesOn m n (area_ranges m first_area ++ ranges.◌>>=◌ (found_in m first_area)
-    (λ first. or_else_ranges first (area_ranges m (second_area word))))
-    → (found_in n first_area >>= λ first. or_else first (last_in n (second_area word)))
-    ≡ (found_in m first_area >>= λ first. or_else first (last_in m (second_area word)))
-same_areas m n word h =
+same_areas : (accept : ℕ) (m n : Memory) (word : ℕ)
+    → AgreesOn m n (area_ranges accept m first_area ++ ranges.◌>>=◌ (found_in accept m first_area)
+    (λ first. or_else_ranges first (area_ranges accept m (second_area word))))
+    → (found_in accept n first_area >>= λ first. or_else first (last_in accept n (second_area word)))
+    ≡ (found_in accept m first_area >>= λ first. or_else first (last_in accept m (second_area word)))
+same_areas accept m n word h =
     let s = second_area word in
-    let front = same_area m n first_area (each_front _ (area_ranges m first_area) _ h) in
-    rw front (then_same m n (λ first. or_else_ranges first (area_ranges m s)) _ _
-    (else_same m n (area_ranges m s) _ _ (λ last. rw (same_area m n s last) refl)) (found_in m first_area)
-    (each_back _ (area_ranges m first_area) _ h))
+    let front = same_area accept m n first_area (each_front _ (area_ranges accept m first_area) _ h) in
+    rw front (then_same m n (λ first. or_else_ranges first (area_ranges accept m s)) _ _
+    (else_same m n (area_ranges accept m s) _ _ (λ last. rw (same_area accept m n s last) refl)) (found_in accept m first_area)
+    (each_back _ (area_ranges accept m first_area) _ h))
 
 same_word : (m n : Memory) → at m 0x40e 2 ≡ at n 0x40e 2 → word_in n ≡ word_in m
 unfolding word_in
 same_word m n h = rw (← h) refl
 
-pub same_search : (m n : Memory) → AgreesOn m n (search_ranges m) → found_rsdp n ≡ found_rsdp m
-unfolding found_rsdp
-same_search m n h = rw (same_word m n h.0) (then_same m n (λ word. area_ranges m first_area ++ ranges.◌>>=◌
-    (found_in m first_area) (λ first. or_else_ranges first (area_ranges m (second_area word)))) _ _ (same_areas m n)
+pub same_search : (accept : ℕ) (m n : Memory) → AgreesOn m n (accepted_search_ranges accept m) → accepted_found_rsdp accept n ≡ accepted_found_rsdp accept m
+unfolding accepted_found_rsdp
+same_search accept m n h = rw (same_word m n h.0) (then_same m n (λ word. area_ranges accept m first_area ++ ranges.◌>>=◌
+    (found_in accept m first_area) (λ first. or_else_ranges first (area_ranges accept m (second_area word)))) _ _ (same_areas accept m n)
     (word_in m) h.1)
 
 -- ---- what is opened
@@ -309,42 +309,89 @@ pub same_opened_at : (m n : Memory) (revision address : ℕ)
     → opened_at n (revision, address) ≡ opened_at m (revision, address)
 same_opened_at m n revision address h = same_opened m n (root_of_revision revision address) h
 
-pub same_opened_by_rsdp : DependsOn opened_by_rsdp_ranges opened_by_rsdp
-same_opened_by_rsdp m n a h =
-    let front = same_rsdp m n a (each_front _ (rsdp_ranges m a) _ h) in
-    rw front (then_same m n (λ b. opened_ranges m (root_of_rsdp b)) _ _ (λ b. same_opened m n (root_of_rsdp b))
-    (rsdp_at m a) (each_back _ (rsdp_ranges m a) _ h))
+-- ---- how an accepted RSDP is read
 
-pub same_opened_by_search : (m n : Memory) → AgreesOn m n (opened_by_search_ranges m)
-    → opened_by_search n ≡ opened_by_search m
-same_opened_by_search m n h =
-    let front = same_search m n (each_front _ (search_ranges m) _ h) in
-    rw front (then_same m n (λ f. opened_ranges m (root_of_rsdp f.1)) _ _ (λ f. same_opened m n (root_of_rsdp f.1))
-    (found_rsdp m) (each_back _ (search_ranges m) _ h))
+extended_if : (m n : Memory) (found : ℕ × List ℕ) (any : Bool)
+    → AgreesOn m n (if any then extended_ranges found.0 (rsdp_of found.1) else [])
+    → (any && is_err (check_extended n found.0 (rsdp_of found.1)))
+    ≡ (any && is_err (check_extended m found.0 (rsdp_of found.1)))
+extended_if m n found true h = ap is_err (then_same m n (length_ranges found.0) _ _ (same_check m n found.0)
+    (check_length (extended_length_of (rsdp_of found.1))) h)
+extended_if m n found false h = refl
+
+pub same_reading : (accept : ℕ) (m n : Memory) (found : ℕ × List ℕ) → AgreesOn m n (reading_ranges accept found)
+    → accepted_rsdp accept n found ≡ accepted_rsdp accept m found
+same_reading accept m n found h = rw (extended_if m n found (has_bit accept 4) h) refl
+
+same_root : (accept : ℕ) (m n : Memory) (found : ℕ × List ℕ) → AgreesOn m n (root_ranges_of accept m found)
+    → accepted_opened accept n (accepted_root accept n found) ≡ accepted_opened accept m (accepted_root accept m found)
+same_root accept m n found h =
+    rw (same_reading accept m n found (each_front _ (reading_ranges accept found) _ h))
+    (same_accepted_opened accept m n (accepted_root accept m found) (each_back _ (reading_ranges accept found) _ h))
+
+pub same_opened_by_rsdp : (accept : ℕ)
+    → DependsOn (accepted_opened_by_rsdp_ranges accept) (accepted_opened_by_rsdp accept)
+same_opened_by_rsdp accept m n a h =
+    let front = same_rsdp accept m n a (each_front _ (accepted_rsdp_ranges accept m a) _ h) in
+    rw front (then_same m n (λ b. root_ranges_of accept m (a, b)) _ _ (λ b. same_root accept m n (a, b))
+    (accepted_rsdp_at accept m a) (each_back _ (accepted_rsdp_ranges accept m a) _ h))
+
+pub same_opened_by_search : (accept : ℕ) (m n : Memory)
+    → AgreesOn m n (accepted_opened_by_search_ranges accept m)
+    → accepted_opened_by_search accept n ≡ accepted_opened_by_search accept m
+same_opened_by_search accept m n h =
+    let front = same_search accept m n (each_front _ (accepted_search_ranges accept m) _ h) in
+    rw front (then_same m n (root_ranges_of accept m) _ _ (same_root accept m n)
+    (accepted_found_rsdp accept m) (each_back _ (accepted_search_ranges accept m) _ h))
 
 -- ---- memories that agree on the ranges of a search in areas find the same RSDP there
 
-same_later_areas : (m n : Memory) (areas : List AddressRange) (o : Option (ℕ × List ℕ))
-    → (AgreesOn m n (areas_ranges m areas) → found_among n areas ≡ found_among m areas)
-    → AgreesOn m n (or_else_ranges o (areas_ranges m areas))
-    → option_or o (found_among n areas) ≡ option_or o (found_among m areas)
-same_later_areas m n areas (Some found) later h = refl
-same_later_areas m n areas None later h = later h
+same_later_areas : (accept : ℕ) (m n : Memory) (areas : List AddressRange) (o : Option (ℕ × List ℕ))
+    → (AgreesOn m n (areas_ranges accept m areas) → found_among accept n areas ≡ found_among accept m areas)
+    → AgreesOn m n (or_else_ranges o (areas_ranges accept m areas))
+    → option_or o (found_among accept n areas) ≡ option_or o (found_among accept m areas)
+same_later_areas accept m n areas (Some found) later h = refl
+same_later_areas accept m n areas None later h = later h
 
-same_among : (m n : Memory) (areas : List AddressRange) → AgreesOn m n (areas_ranges m areas)
-    → found_among n areas ≡ found_among m areas
-same_among m n [] h = refl
-same_among m n (s ∷ areas) h =
-    let front = same_walk m n (count_in s) (first_in s) (each_front _ (walk_ranges m (count_in s) (first_in s)) _ h) in
-    let after = each_back _ (walk_ranges m (count_in s) (first_in s)) _ h in
-    rw front (same_later_areas m n areas (walk_in m s) (same_among m n areas) after)
+same_among : (accept : ℕ) (m n : Memory) (areas : List AddressRange) → AgreesOn m n (areas_ranges accept m areas)
+    → found_among accept n areas ≡ found_among accept m areas
+same_among accept m n [] h = refl
+same_among accept m n (s ∷ areas) h =
+    let front = same_walk accept m n (count_in s) (first_in s) (each_front _ (walk_ranges accept m (count_in s) (first_in s)) _ h) in
+    let after = each_back _ (walk_ranges accept m (count_in s) (first_in s)) _ h in
+    rw front (same_later_areas accept m n areas (walk_in accept m s) (same_among accept m n areas) after)
 
-pub same_in_areas : DependsOn areas_ranges found_in_areas
-unfolding found_in_areas
-same_in_areas m n areas h = rw (same_among m n areas h) refl
+pub same_in_areas : (accept : ℕ) → DependsOn (areas_ranges accept) (accepted_in_areas accept)
+unfolding accepted_in_areas
+same_in_areas accept m n areas h = rw (same_among accept m n areas h) refl
 
-pub same_opened_in_areas : DependsOn opened_in_areas_ranges opened_in_areas
-same_opened_in_areas m n areas h =
-    let front = same_in_areas m n areas (each_front _ (areas_ranges m areas) _ h) in
-    rw front (then_same m n (λ f. opened_ranges m (root_of_rsdp f.1)) _ _ (λ f. same_opened m n (root_of_rsdp f.1))
-    (found_in_areas m areas) (each_back _ (areas_ranges m areas) _ h))
+pub same_opened_in_areas : (accept : ℕ)
+    → DependsOn (accepted_opened_in_areas_ranges accept) (accepted_opened_in_areas accept)
+same_opened_in_areas accept m n areas h =
+    let front = same_in_areas accept m n areas (each_front _ (areas_ranges accept m areas) _ h) in
+    rw front (then_same m n (root_ranges_of accept m) _ _ (same_root accept m n)
+    (accepted_in_areas accept m areas) (each_back _ (areas_ranges accept m areas) _ h))
+
+-- ---- what is opened by an RSDP that is found
+
+module _ {X : Type 0} (view : X → Opened) (accept : ℕ) (m : Memory) where
+  -- what is opened by the RSDP that is found is what is opened by the definition
+  by_found : {F : Type 0} (found : Result F AcpiError) (f : F) (goes : F → Result Opened AcpiError)
+      (r : Result X AcpiError) → found ≡ Ok f → Gives view r (goes f) → Gives view r (found >>= goes)
+  by_found found f goes r is given = rw is given
+
+  pub by_rsdp : (r : Result X AcpiError) (a : ℕ) (b : List ℕ) → accepted_rsdp_at accept m a ≡ Ok b
+      → Gives view r (accepted_opened accept m (accepted_root accept m (a, b)))
+      → Gives view r (accepted_opened_by_rsdp accept m a)
+  by_rsdp r a b is given = by_found (accepted_rsdp_at accept m a) b _ r is given
+
+  pub by_search : (r : Result X AcpiError) (f : ℕ × List ℕ) → accepted_found_rsdp accept m ≡ Ok f
+      → Gives view r (accepted_opened accept m (accepted_root accept m f))
+      → Gives view r (accepted_opened_by_search accept m)
+  by_search r f is given = by_found (accepted_found_rsdp accept m) f _ r is given
+
+  pub by_areas : (r : Result X AcpiError) (areas : List AddressRange) (f : ℕ × List ℕ)
+      → accepted_in_areas accept m areas ≡ Ok f
+      → Gives view r (accepted_opened accept m (accepted_root accept m f))
+      → Gives view r (accepted_opened_in_areas accept m areas)
+  by_areas r areas f is given = by_found (accepted_in_areas accept m areas) f _ r is given

@@ -6,7 +6,7 @@ use Rattle.acpi.specs.Types.{AcpiError, DSDT, Fadt}
 use Rattle.acpi_base.specs.Words.{Memory, Allows, Ranges, accepted, table_ranges, unless_found, lent, Kind, plain_kind, table_at}
 use Rattle.acpi_base.specs.Ranges as ranges
 use Rattle.acpi_fixed.specs.Words.{dsdt_address_of, fadt_at}
-use Rattle.acpi.specs.Words.{accepted_dsdt_ranges, by_accepted_fadt_ranges, header_ranges, lookup_ranges, fadt_kind, faults_of, unless_valid, lookup, Opened, opened_from, pointers, width_of, TableFault, RootPointer, root_and_ranges, area_ranges, opened_by_rsdp_ranges, opened_by_search_ranges, opened_ranges, rsdp_ranges, search_ranges, walk_ranges, both_place_ranges, dsdt_place_ranges, facs_place_ranges, dsdt_and_facs_ranges, place_ranges, root_of_rsdp, rsdp_at, count_of, first_area, found_in, found_rsdp, room_of, second_area, word_in, Area}
+use Rattle.acpi.specs.Words.{accepted_dsdt_ranges, by_accepted_fadt_ranges, header_ranges, lookup_ranges, fadt_kind, faults_of, unless_valid, lookup, Opened, opened_from, pointers, width_of, TableFault, RootPointer, root_and_ranges, accepted_found_rsdp, accepted_opened_by_rsdp_ranges, accepted_opened_by_search_ranges, accepted_rsdp_at, accepted_rsdp_ranges, accepted_search_ranges, area_ranges, opened_ranges, root_ranges_of, walk_ranges, both_place_ranges, dsdt_place_ranges, facs_place_ranges, dsdt_and_facs_ranges, place_ranges, count_of, first_area, found_in, room_of, second_area, word_in, Area}
 
 -- the pointer that is seen first, and those after it
 pub peeked : (all : List ℕ) (p : ℕ) → Some p ≡ slice_get all 0 → all ≡ p ∷ drop 1 all
@@ -127,71 +127,75 @@ module _ (may : ℕ → ℕ → Bool) where
 
   -- ---- the RSDP
 
-  pub asked_first : (m : Memory) (a : ℕ) → Allows may (opened_by_rsdp_ranges m a) → Allows may (rsdp_ranges m a)
-  asked_first m a h = all_front may (rsdp_ranges m a) _ h
+  pub asked_first : (accept : ℕ) (m : Memory) (a : ℕ) → Allows may (accepted_opened_by_rsdp_ranges accept m a)
+      → Allows may (accepted_rsdp_ranges accept m a)
+  asked_first accept m a h = all_front may (accepted_rsdp_ranges accept m a) _ h
 
-  pub asked_root : (m : Memory) (a : ℕ) (b : List ℕ) → Allows may (opened_by_rsdp_ranges m a) → rsdp_at m a ≡ Ok b
-      → Allows may (opened_ranges m (root_of_rsdp b))
-  asked_root m a b h there = rw there at (all_back may (rsdp_ranges m a) _ h)
+  pub asked_root : (accept : ℕ) (m : Memory) (a : ℕ) (b : List ℕ)
+      → Allows may (accepted_opened_by_rsdp_ranges accept m a) → accepted_rsdp_at accept m a ≡ Ok b
+      → Allows may (root_ranges_of accept m (a, b))
+  asked_root accept m a b h there = rw there at (all_back may (accepted_rsdp_ranges accept m a) _ h)
 
-  pub asked_search : (m : Memory) → Allows may (opened_by_search_ranges m) → Allows may (search_ranges m)
-  asked_search m h = all_front may (search_ranges m) _ h
+  pub asked_search : (accept : ℕ) (m : Memory) → Allows may (accepted_opened_by_search_ranges accept m)
+      → Allows may (accepted_search_ranges accept m)
+  asked_search accept m h = all_front may (accepted_search_ranges accept m) _ h
 
-  pub asked_found : (m : Memory) (found : ℕ × List ℕ) → Allows may (opened_by_search_ranges m) → found_rsdp m ≡ Ok found
-      → Allows may (opened_ranges m (root_of_rsdp found.1))
-  asked_found m found h there = rw there at (all_back may (search_ranges m) _ h)
+  pub asked_found : (accept : ℕ) (m : Memory) (found : ℕ × List ℕ)
+      → Allows may (accepted_opened_by_search_ranges accept m) → accepted_found_rsdp accept m ≡ Ok found
+      → Allows may (root_ranges_of accept m found)
+  asked_found accept m found h there = rw there at (all_back may (accepted_search_ranges accept m) _ h)
 
   -- ---- the search
 
-  pub asked_walk : (m : Memory) (s : Area) (b : List ℕ) → Allows may (area_ranges m s)
+  pub asked_walk : (accept : ℕ) (m : Memory) (s : Area) (b : List ℕ) → Allows may (area_ranges accept m s)
       → lent m s.start (room_of s) ≡ Ok b
-      → Allows may (walk_ranges m (count_of s) s.start)
-  asked_walk m s b h there = rw there at (all_rest may (s.start, room_of s) _ h)
+      → Allows may (walk_ranges accept m (count_of s) s.start)
+  asked_walk accept m s b h there = rw there at (all_rest may (s.start, room_of s) _ h)
 
-  pub asked_first_area : (m : Memory) (w : ℕ) → Allows may (search_ranges m) → word_in m ≡ Ok w
-      → Allows may (area_ranges m first_area)
-  asked_first_area m w h word =
-      all_front may (area_ranges m first_area) _ (behind (word_in m) _ w word (all_rest may (0x40e, 2) _ h))
+  pub asked_first_area : (accept : ℕ) (m : Memory) (w : ℕ) → Allows may (accepted_search_ranges accept m) → word_in m ≡ Ok w
+      → Allows may (area_ranges accept m first_area)
+  asked_first_area accept m w h word =
+      all_front may (area_ranges accept m first_area) _ (behind (word_in m) _ w word (all_rest may (0x40e, 2) _ h))
 
-  pub asked_second_area : (m : Memory) (w : ℕ) → Allows may (search_ranges m) → word_in m ≡ Ok w
-      → found_in m first_area ≡ Ok None
-      → Allows may (area_ranges m (second_area w))
-  asked_second_area m w h word none =
-      behind (found_in m first_area) _ None none
-      (all_back may (area_ranges m first_area) _ (behind (word_in m) _ w word (all_rest may (0x40e, 2) _ h)))
+  pub asked_second_area : (accept : ℕ) (m : Memory) (w : ℕ) → Allows may (accepted_search_ranges accept m) → word_in m ≡ Ok w
+      → found_in accept m first_area ≡ Ok None
+      → Allows may (area_ranges accept m (second_area w))
+  asked_second_area accept m w h word none =
+      behind (found_in accept m first_area) _ None none
+      (all_back may (area_ranges accept m first_area) _ (behind (word_in m) _ w word (all_rest may (0x40e, 2) _ h)))
 
-  of_pred : (n n' : ℕ) (m : Memory) (a : ℕ) → n ≡ n'
-      → Allows may (rsdp_ranges m a ++ unless_found (rsdp_at m a) (walk_ranges m n (a + 16)))
-      → Allows may (rsdp_ranges m a ++ unless_found (rsdp_at m a) (walk_ranges m n' (a + 16)))
-  of_pred n n' m a same h = subst (λ x. Allows may (rsdp_ranges m a
-      ++ unless_found (rsdp_at m a) (walk_ranges m x (a + 16)))) same h
+  of_pred : (accept : ℕ) (n n' : ℕ) (m : Memory) (a : ℕ) → n ≡ n'
+      → Allows may (accepted_rsdp_ranges accept m a ++ unless_found (accepted_rsdp_at accept m a) (walk_ranges accept m n (a + 16)))
+      → Allows may (accepted_rsdp_ranges accept m a ++ unless_found (accepted_rsdp_at accept m a) (walk_ranges accept m n' (a + 16)))
+  of_pred accept n n' m a same h = subst (λ x. Allows may (accepted_rsdp_ranges accept m a
+      ++ unless_found (accepted_rsdp_at accept m a) (walk_ranges accept m x (a + 16)))) same h
 
-  asked_step : (m : Memory) (n a : ℕ) → 0 < n → Allows may (walk_ranges m n a)
-      → Allows may (rsdp_ranges m a ++ unless_found (rsdp_at m a) (walk_ranges m (n - 1) (a + 16)))
-  asked_step m zero a some h = absurd (omega arith)
-  asked_step m (suc n) a some h = of_pred n (suc n - 1) m a (omega arith) h
+  asked_step : (accept : ℕ) (m : Memory) (n a : ℕ) → 0 < n → Allows may (walk_ranges accept m n a)
+      → Allows may (accepted_rsdp_ranges accept m a ++ unless_found (accepted_rsdp_at accept m a) (walk_ranges accept m (n - 1) (a + 16)))
+  asked_step accept m zero a some h = absurd (omega arith)
+  asked_step accept m (suc n) a some h = of_pred accept n (suc n - 1) m a (omega arith) h
 
-  pub asked_candidate : (m : Memory) (n k start : ℕ) → k < n → Allows may (walk_ranges m (n - k) (start + 16 * k))
-      → Allows may (rsdp_ranges m (start + 16 * k))
-  asked_candidate m n k start turn h = all_front may (rsdp_ranges m (start + 16 * k)) _
-      (asked_step m (n - k) (start + 16 * k) (omega arith) h)
+  pub asked_candidate : (accept : ℕ) (m : Memory) (n k start : ℕ) → k < n → Allows may (walk_ranges accept m (n - k) (start + 16 * k))
+      → Allows may (accepted_rsdp_ranges accept m (start + 16 * k))
+  asked_candidate accept m n k start turn h = all_front may (accepted_rsdp_ranges accept m (start + 16 * k)) _
+      (asked_step accept m (n - k) (start + 16 * k) (omega arith) h)
 
   -- after a candidate that is refused
   after_refused : (m : Memory) (r : Result (List ℕ) AcpiError) (e : AcpiError) (xs : Ranges) → r ≡ Err e
       → Allows may (unless_found r xs) → Allows may xs
   after_refused m r e xs is h = rw is at h
 
-  moved_walk : (m : Memory) (n n' a a' : ℕ) → n ≡ n' → a ≡ a' → Allows may (walk_ranges m n a)
-      → Allows may (walk_ranges m n' a')
-  moved_walk m n n' a a' same_n same_a h = rw (same_n, same_a) at h
+  moved_walk : (accept : ℕ) (m : Memory) (n n' a a' : ℕ) → n ≡ n' → a ≡ a' → Allows may (walk_ranges accept m n a)
+      → Allows may (walk_ranges accept m n' a')
+  moved_walk accept m n n' a a' same_n same_a h = rw (same_n, same_a) at h
 
-  pub asked_next : (m : Memory) (n k start : ℕ) (e : AcpiError) → k < n
-      → Allows may (walk_ranges m (n - k) (start + 16 * k)) → rsdp_at m (start + 16 * k) ≡ Err e
-      → Allows may (walk_ranges m (n - (k + 1)) (start + 16 * (k + 1)))
-  asked_next m n k start e turn h refused =
-      let rest = all_back may (rsdp_ranges m (start + 16 * k)) _
-      (asked_step m (n - k) (start + 16 * k) (omega arith) h) in
-      moved_walk m (n - k - 1) (n - (k + 1)) (start + 16 * k + 16) (start + 16 * (k + 1)) (omega arith) (omega arith)
+  pub asked_next : (accept : ℕ) (m : Memory) (n k start : ℕ) (e : AcpiError) → k < n
+      → Allows may (walk_ranges accept m (n - k) (start + 16 * k)) → accepted_rsdp_at accept m (start + 16 * k) ≡ Err e
+      → Allows may (walk_ranges accept m (n - (k + 1)) (start + 16 * (k + 1)))
+  asked_next accept m n k start e turn h refused =
+      let rest = all_back may (accepted_rsdp_ranges accept m (start + 16 * k)) _
+      (asked_step accept m (n - k) (start + 16 * k) (omega arith) h) in
+      moved_walk accept m (n - k - 1) (n - (k + 1)) (start + 16 * k + 16) (start + 16 * (k + 1)) (omega arith) (omega arith)
       (after_refused m _ e _ refused rest)
 
 -- a call below a root table that was opened

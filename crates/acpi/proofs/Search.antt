@@ -4,7 +4,7 @@ use Rattle.acpi_base.proofs.FromStd.{leb-true, take-take, drop-take, length-take
 use Rattle.acpi_base.specs.Words.{part, field_of, Memory, Region, HoldsRange, IsMemory, at, rest_from, lent, ◌>>=◌, Gives, start_of}
 use Rattle.acpi.specs.Types.{RsdpIncorrectSignature, MapFailed, NoValidRsdp, AcpiError, PhysicalMapping}
 use Rattle.acpi_base.proofs.Words.{lent_is_inside, lent_front, bind_ok, holds_ok, part_within, some_lent}
-use Rattle.acpi.specs.Words.{check_first, checked_length, rsd_ptr, rsdp_at, rsdp_of, check_rsdp, check_whole, at_hand, or_later, walk, first_area, second_area, room_of, count_of, found_in, found_rsdp, or_else, word_in, IsRefused, IsLeast, HasNone, IsLent, IsSecond, IsSearched, IsFound, placed, Area}
+use Rattle.acpi.specs.Words.{accepted_found_rsdp, accepted_length, accepted_rsdp_at, check_first, checked_length, rsd_ptr, rsdp_at, rsdp_of, check_rsdp, check_whole, at_hand, or_later, walk, first_area, second_area, room_of, count_of, found_in, or_else, word_in, IsRefused, IsLeast, HasNone, IsLent, IsSecond, IsSearched, IsFound, placed, Area}
 
 -- what is lent is there
 pub at_lent : (m : Memory) (a n : ℕ) (b : List ℕ) → lent m a n ≡ Ok b → at m a n ≡ Some b
@@ -49,10 +49,10 @@ lent_part m a off n size b hm e some room =
     rw ((lent_is_inside m (a + off) n (part b off n) hm some).1 (region.0, region.1, range)) refl
 
 -- without the signature no RSDP is there
-pub unsigned_refused : (m : Memory) (a off size : ℕ) (b : List ℕ) → IsMemory m → lent m a size ≡ Ok b → off + 36 ≤ size
-    → bytes_eq (part b off 8) rsd_ptr ≡ false → rsdp_at m (a + off) ≡ Err RsdpIncorrectSignature
-unfolding rsdp_at checked_length check_first rsdp_of
-unsigned_refused m a off size b hm e room other =
+pub unsigned_refused : (accept : ℕ) (m : Memory) (a off size : ℕ) (b : List ℕ) → IsMemory m → lent m a size ≡ Ok b → off + 36 ≤ size
+    → bytes_eq (part b off 8) rsd_ptr ≡ false → accepted_rsdp_at accept m (a + off) ≡ Err RsdpIncorrectSignature
+unfolding accepted_rsdp_at accepted_length check_first rsdp_of
+unsigned_refused accept m a off size b hm e room other =
     let there = lent_part m a off 36 size b hm e (omega arith) room in
     let front : take 8 (take 36 (drop off b)) ≡ take 8 (drop off b) = take-take 8 36 (drop off b) (omega arith) in
     rw (there, front, other) refl
@@ -69,67 +69,67 @@ not_begun P n a h =
     let start : a + 16 * 0 ≡ a = omega arith in
     rw (all, start) h
 
-walk_step : (m : Memory) (n a : ℕ) → 0 < n → walk m n a ≡ or_later (there a) (rsdp_at m a) (walk m (n - 1) (a + 16))
-walk_step m zero a some = absurd (omega arith)
-walk_step m (suc n) a some =
+walk_step : (accept : ℕ) (m : Memory) (n a : ℕ) → 0 < n → walk accept m n a ≡ or_later (there a) (accepted_rsdp_at accept m a) (walk accept m (n - 1) (a + 16))
+walk_step accept m zero a some = absurd (omega arith)
+walk_step accept m (suc n) a some =
     let less : suc n - 1 ≡ n = omega arith in
     rw less refl
 
-module _ (m : Memory) (n k start : ℕ) (all : Option (ℕ × List ℕ)) (so_far : walk m (n - k) (start + 16 * k) ≡ all)
+module _ (accept : ℕ) (m : Memory) (n k start : ℕ) (all : Option (ℕ × List ℕ)) (so_far : walk accept m (n - k) (start + 16 * k) ≡ all)
     (turn : k < n) where
-  turned : or_later (there (start + 16 * k)) (rsdp_at m (start + 16 * k))
-      (walk m (n - (k + 1)) (start + 16 * (k + 1))) ≡ all
+  turned : or_later (there (start + 16 * k)) (accepted_rsdp_at accept m (start + 16 * k))
+      (walk accept m (n - (k + 1)) (start + 16 * (k + 1))) ≡ all
   turned =
       let less : n - k - 1 ≡ n - (k + 1) = omega arith in
       let next : start + 16 * k + 16 ≡ start + 16 * (k + 1) = omega arith in
-      let step = walk_step m (n - k) (start + 16 * k) (omega arith) in
+      let step = walk_step accept m (n - k) (start + 16 * k) (omega arith) in
       rw (less, next) at (sym step ∙ so_far)
 
   -- the candidate in turn is valid
-  pub walk_here : (b : List ℕ) → rsdp_at m (start + 16 * k) ≡ Ok b → Some (start + 16 * k, b) ≡ all
+  pub walk_here : (b : List ℕ) → accepted_rsdp_at accept m (start + 16 * k) ≡ Ok b → Some (start + 16 * k, b) ≡ all
   walk_here b valid = rw valid at turned
 
   -- the candidate in turn is refused
-  pub walk_later : (e : AcpiError) → rsdp_at m (start + 16 * k) ≡ Err e
-      → walk m (n - (k + 1)) (start + 16 * (k + 1)) ≡ all
+  pub walk_later : (e : AcpiError) → accepted_rsdp_at accept m (start + 16 * k) ≡ Err e
+      → walk accept m (n - (k + 1)) (start + 16 * (k + 1)) ≡ all
   walk_later e refused = rw refused at turned
 
   -- the candidate in turn lacks the signature
   pub walk_past : (size : ℕ) (b : List ℕ) → IsMemory m → lent m start size ≡ Ok b → 16 * k + 36 ≤ size
-      → bytes_eq (part b (16 * k) 8) rsd_ptr ≡ false → walk m (n - (k + 1)) (start + 16 * (k + 1)) ≡ all
-  walk_past size b h e room other = walk_later _ (unsigned_refused m start (16 * k) size b h e room other)
+      → bytes_eq (part b (16 * k) 8) rsd_ptr ≡ false → walk accept m (n - (k + 1)) (start + 16 * (k + 1)) ≡ all
+  walk_past size b h e room other = walk_later _ (unsigned_refused accept m start (16 * k) size b h e room other)
 
 -- ---- the search gives the least valid candidate
 
 -- what n candidates from an address on have
-abbrev pub Says : Memory → ℕ → ℕ → Option (ℕ × List ℕ) → Type 0
-Says m n a (Some found) =
-    (k : ℕ) × (k < n) × (found.0 ≡ a + 16 * k) × (rsdp_at m found.0 ≡ Ok found.1)
-    × ((i : ℕ) → i < k → IsRefused m (a + 16 * i))
-Says m n a None = (i : ℕ) → i < n → IsRefused m (a + 16 * i)
+abbrev pub Says : ℕ → Memory → ℕ → ℕ → Option (ℕ × List ℕ) → Type 0
+Says accept m n a (Some found) =
+    (k : ℕ) × (k < n) × (found.0 ≡ a + 16 * k) × (accepted_rsdp_at accept m found.0 ≡ Ok found.1)
+    × ((i : ℕ) → i < k → IsRefused accept m (a + 16 * i))
+Says accept m n a None = (i : ℕ) → i < n → IsRefused accept m (a + 16 * i)
 
-pub moved : (m : Memory) (a b : ℕ) → a ≡ b → IsRefused m a → IsRefused m b
-moved m a b e h = subst (λ (x : ℕ). IsRefused m x) e h
+pub moved : (accept : ℕ) (m : Memory) (a b : ℕ) → a ≡ b → IsRefused accept m a → IsRefused accept m b
+moved accept m a b e h = subst (λ (x : ℕ). IsRefused accept m x) e h
 
-refused_more : (m : Memory) (a k : ℕ) → IsRefused m a → ((i : ℕ) → i < k → IsRefused m (a + 16 + 16 * i)) → (i : ℕ)
-    → i < suc k → IsRefused m (a + 16 * i)
-refused_more m a k first rest zero less = moved m a _ (omega arith) first
-refused_more m a k first rest (suc i) less = moved m (a + 16 + 16 * i) _ (omega arith) (rest i (omega arith))
+refused_more : (accept : ℕ) (m : Memory) (a k : ℕ) → IsRefused accept m a → ((i : ℕ) → i < k → IsRefused accept m (a + 16 + 16 * i)) → (i : ℕ)
+    → i < suc k → IsRefused accept m (a + 16 * i)
+refused_more accept m a k first rest zero less = moved accept m a _ (omega arith) first
+refused_more accept m a k first rest (suc i) less = moved accept m (a + 16 + 16 * i) _ (omega arith) (rest i (omega arith))
 
-one_more : (m : Memory) (n a : ℕ) (o : Option (ℕ × List ℕ)) → IsRefused m a → Says m n (a + 16) o → Says m (suc n) a o
-one_more m n a (Some found) first h =
-    (suc h.0, omega (arith, h.1), h.2 ∙ omega arith, h.3, refused_more m a h.0 first h.4)
-one_more m n a None first h = refused_more m a n first h
+one_more : (accept : ℕ) (m : Memory) (n a : ℕ) (o : Option (ℕ × List ℕ)) → IsRefused accept m a → Says accept m n (a + 16) o → Says accept m (suc n) a o
+one_more accept m n a (Some found) first h =
+    (suc h.0, omega (arith, h.1), h.2 ∙ omega arith, h.3, refused_more accept m a h.0 first h.4)
+one_more accept m n a None first h = refused_more accept m a n first h
 
-walk_one : (m : Memory) (n a : ℕ) (r : Result (List ℕ) AcpiError) (later : Option (ℕ × List ℕ)) → rsdp_at m a ≡ r
-    → Says m n (a + 16) later → Says m (suc n) a (or_later (there a) r later)
-walk_one m n a (Ok b) later e h =
+walk_one : (accept : ℕ) (m : Memory) (n a : ℕ) (r : Result (List ℕ) AcpiError) (later : Option (ℕ × List ℕ)) → accepted_rsdp_at accept m a ≡ r
+    → Says accept m n (a + 16) later → Says accept m (suc n) a (or_later (there a) r later)
+walk_one accept m n a (Ok b) later e h =
     (0, omega arith, omega arith, e, λ i less. absurd (omega (arith, less)))
-walk_one m n a (Err x) later e h = one_more m n a later (x, e) h
+walk_one accept m n a (Err x) later e h = one_more accept m n a later (x, e) h
 
-pub walk_says : (m : Memory) (n a : ℕ) → Says m n a (walk m n a)
-walk_says m zero a = λ i less. absurd (omega (arith, less))
-walk_says m (suc n) a = walk_one m n a (rsdp_at m a) (walk m n (a + 16)) refl (walk_says m n (a + 16))
+pub walk_says : (accept : ℕ) (m : Memory) (n a : ℕ) → Says accept m n a (walk accept m n a)
+walk_says accept m zero a = λ i less. absurd (omega (arith, less))
+walk_says accept m (suc n) a = walk_one accept m n a (accepted_rsdp_at accept m a) (walk accept m n (a + 16)) refl (walk_says accept m n (a + 16))
 
 count_fits : (s : Area) (k : ℕ) → k < count_of s → s.start + 16 * k + 20 ≤ s.end
 count_fits s k h = omega arith
@@ -138,34 +138,34 @@ fits_count : (s : Area) (k : ℕ) → s.start + 16 * k + 20 ≤ s.end → k < co
 fits_count s k h = omega arith
 
 -- what a search of an area comes to
-abbrev InArea : Memory → Area → Result (Option (ℕ × List ℕ)) AcpiError → Type 0
-InArea m s (Ok (Some found)) = IsLeast m s found
-InArea m s (Ok None) = HasNone m s
-InArea m s (Err e) = (e ≡ MapFailed) × (at m s.start (room_of s) ≡ None)
+abbrev InArea : ℕ → Memory → Area → Result (Option (ℕ × List ℕ)) AcpiError → Type 0
+InArea accept m s (Ok (Some found)) = IsLeast accept m s found
+InArea accept m s (Ok None) = HasNone accept m s
+InArea accept m s (Err e) = (e ≡ MapFailed) × (at m s.start (room_of s) ≡ None)
 
-walked : (m : Memory) (s : Area) (o : Option (ℕ × List ℕ)) → IsLent m s → Says m (count_of s) s.start o
-    → InArea m s (Ok o)
-walked m s (Some found) there h =
+walked : (accept : ℕ) (m : Memory) (s : Area) (o : Option (ℕ × List ℕ)) → IsLent m s → Says accept m (count_of s) s.start o
+    → InArea accept m s (Ok o)
+walked accept m s (Some found) there h =
     let fits = count_fits s h.0 h.1 in
     record {
       lent = there;
       candidate = (h.0, h.2, omega (arith, h.2));
       valid = h.3;
-      least = λ a less c. moved m (s.start + 16 * c.0) a (sym c.1) (h.4 c.0 (omega (arith, less, h.2, c.1)));
+      least = λ a less c. moved accept m (s.start + 16 * c.0) a (sym c.1) (h.4 c.0 (omega (arith, less, h.2, c.1)));
     }
-walked m s None there h = record {
+walked accept m s None there h = record {
   lent = there;
-  refused = λ a c. moved m (s.start + 16 * c.0) a (sym c.1) (h c.0 (fits_count s c.0 (omega (arith, c.1, c.2))));
+  refused = λ a c. moved accept m (s.start + 16 * c.0) a (sym c.1) (h c.0 (fits_count s c.0 (omega (arith, c.1, c.2))));
 }
 
-area_lent : (m : Memory) (s : Area) (o : Option (List ℕ)) → at m s.start (room_of s) ≡ o
-    → InArea m s (ok_or o MapFailed >>= λ b. Ok (walk m (count_of s) s.start))
-area_lent m s (Some b) e = walked m s _ (b, e) (walk_says m (count_of s) s.start)
-area_lent m s None e = (refl, e)
+area_lent : (accept : ℕ) (m : Memory) (s : Area) (o : Option (List ℕ)) → at m s.start (room_of s) ≡ o
+    → InArea accept m s (ok_or o MapFailed >>= λ b. Ok (walk accept m (count_of s) s.start))
+area_lent accept m s (Some b) e = walked accept m s _ (b, e) (walk_says accept m (count_of s) s.start)
+area_lent accept m s None e = (refl, e)
 
-in_area : (m : Memory) (s : Area) → InArea m s (found_in m s)
+in_area : (accept : ℕ) (m : Memory) (s : Area) → InArea accept m s (found_in accept m s)
 unfolding found_in
-in_area m s = area_lent m s _ refl
+in_area accept m s = area_lent accept m s _ refl
 
 -- what reading the word comes to
 abbrev IsWord : Memory → Result ℕ AcpiError → Type 0
@@ -184,41 +184,41 @@ is_word m = word_lent m _ refl
 -- ---- the whole search
 
 -- what is to be believed of the definition's answer
-abbrev Searched : Memory → Result (ℕ × List ℕ) AcpiError → Type 0
-Searched m r = IsSearched m (λ found. found) r
+abbrev Searched : ℕ → Memory → Result (ℕ × List ℕ) AcpiError → Type 0
+Searched accept m r = IsSearched accept m (λ found. found) r
 
-module _ (m : Memory) (word : ℕ) (is : IsWord m (Ok word)) where
+module _ (accept : ℕ) (m : Memory) (word : ℕ) (is : IsWord m (Ok word)) where
   is_second : IsSecond m (second_area word)
   is_second = (is.0, is.1, ap second_area is.2)
 
-  in_second : HasNone m first_area → (r : Result (Option (ℕ × List ℕ)) AcpiError) → InArea m (second_area word) r
-      → Searched m (r >>= λ found. or_else found (Err NoValidRsdp))
+  in_second : HasNone accept m first_area → (r : Result (Option (ℕ × List ℕ)) AcpiError) → InArea accept m (second_area word) r
+      → Searched accept m (r >>= λ found. or_else found (Err NoValidRsdp))
   in_second none (Ok (Some found)) least = (second_area word, is_second, inr (none, least))
   in_second none (Ok None) missing = inr (refl, (second_area word, is_second, none, missing))
   in_second none (Err e) unmapped = inl (unmapped.0, inr (inr (second_area word, is_second, none, unmapped.1)))
 
-  in_first : (r : Result (Option (ℕ × List ℕ)) AcpiError) → InArea m first_area r
-      → Searched m (r >>= λ first. or_else first (found_in m (second_area word) >>= λ found.
+  in_first : (r : Result (Option (ℕ × List ℕ)) AcpiError) → InArea accept m first_area r
+      → Searched accept m (r >>= λ first. or_else first (found_in accept m (second_area word) >>= λ found.
       or_else found (Err NoValidRsdp)))
   in_first (Ok (Some found)) least = (second_area word, is_second, inl least)
-  in_first (Ok None) none = in_second none _ (in_area m (second_area word))
+  in_first (Ok None) none = in_second none _ (in_area accept m (second_area word))
   in_first (Err e) unmapped = inl (unmapped.0, inr (inl unmapped.1))
 
-from_word : (m : Memory) (r : Result ℕ AcpiError) → IsWord m r
-    → Searched m (r >>= λ word. found_in m first_area >>= λ first.
-    or_else first (found_in m (second_area word) >>= λ found. or_else found (Err NoValidRsdp)))
-from_word m (Ok word) is = in_first m word is _ (in_area m first_area)
-from_word m (Err e) unmapped = inl (unmapped.0, inl unmapped.1)
+from_word : (accept : ℕ) (m : Memory) (r : Result ℕ AcpiError) → IsWord m r
+    → Searched accept m (r >>= λ word. found_in accept m first_area >>= λ first.
+    or_else first (found_in accept m (second_area word) >>= λ found. or_else found (Err NoValidRsdp)))
+from_word accept m (Ok word) is = in_first accept m word is _ (in_area accept m first_area)
+from_word accept m (Err e) unmapped = inl (unmapped.0, inl unmapped.1)
 
-found_is_searched : (m : Memory) → Searched m (found_rsdp m)
-unfolding found_rsdp
-found_is_searched m = from_word m _ (is_word m)
+found_is_searched : (accept : ℕ) (m : Memory) → Searched accept m (accepted_found_rsdp accept m)
+unfolding accepted_found_rsdp
+found_is_searched accept m = from_word accept m _ (is_word m)
 
--- what answers as `found_rsdp` has found the least valid candidate, or there is none
-pub searched : {X : Type 0} (m : Memory) (view : X → ℕ × List ℕ) (r : Result X AcpiError) → Gives view r (found_rsdp m)
-    → IsSearched m view r
-searched m view (Ok x) same = rw same at (found_is_searched m)
-searched m view (Err e) same = rw same at (found_is_searched m)
+-- what answers as `accepted_found_rsdp` has found the least valid candidate, or there is none
+pub searched : (accept : ℕ) {X : Type 0} (m : Memory) (view : X → ℕ × List ℕ) (r : Result X AcpiError) → Gives view r (accepted_found_rsdp accept m)
+    → IsSearched accept m view r
+searched accept m view (Ok x) same = rw same at (found_is_searched accept m)
+searched accept m view (Err e) same = rw same at (found_is_searched accept m)
 
 -- ---- valid RSDPs: the bytes that are lent where one is, and bytes that are one
 
@@ -226,32 +226,32 @@ is_value : (r : Result (List ℕ) AcpiError) → IsOk r → (b : List ℕ) × (r
 is_value (Ok b) ok = (b, refl)
 is_value (Err e) ok = absurd cc
 
-value_lent : (m : Memory) (a : ℕ) (b : List ℕ) → rsdp_at m a ≡ Ok b → lent m a 36 ≡ Ok b
-unfolding rsdp_at
-value_lent m a b e =
+value_lent : (accept : ℕ) (m : Memory) (a : ℕ) (b : List ℕ) → accepted_rsdp_at accept m a ≡ Ok b → lent m a 36 ≡ Ok b
+unfolding accepted_rsdp_at
+value_lent accept m a b e =
     let head = bind_ok (lent m a 36) _ b e in
-    let length = bind_ok (checked_length head.0) _ b head.2 in
+    let length = bind_ok (accepted_length accept head.0) _ b head.2 in
     let summed = bind_ok (check_whole (lent m a) length.0) _ b length.2 in
     head.1 ∙ summed.2
 
-pub valid_lent : (m : Memory) (a : ℕ) → IsOk (rsdp_at m a) → rsdp_at m a ≡ lent m a 36
-valid_lent m a ok =
-    let b = is_value (rsdp_at m a) ok in
-    b.1 ∙ sym (value_lent m a b.0 b.1)
+pub valid_lent : (accept : ℕ) (m : Memory) (a : ℕ) → IsOk (accepted_rsdp_at accept m a) → accepted_rsdp_at accept m a ≡ lent m a 36
+valid_lent accept m a ok =
+    let b = is_value (accepted_rsdp_at accept m a) ok in
+    b.1 ∙ sym (value_lent accept m a b.0 b.1)
 
 -- what a search finds is valid
 
-is_valid : (m : Memory) (found : ℕ × List ℕ) → IsFound m found → IsOk (rsdp_at m found.0)
-is_valid m found f = elim f.2 [ inl first ↦ rw first.valid refl | inr second ↦ rw second.1.valid refl ]
+is_valid : (accept : ℕ) (m : Memory) (found : ℕ × List ℕ) → IsFound accept m found → IsOk (accepted_rsdp_at accept m found.0)
+is_valid accept m found f = elim f.2 [ inl first ↦ rw first.valid refl | inr second ↦ rw second.1.valid refl ]
 
-of_searched : {X : Type 0} (m : Memory) (view : X → ℕ × List ℕ) (r : Result X AcpiError) → IsSearched m view r
-    → IfOk r (λ x. IsOk (rsdp_at m (view x).0))
-of_searched m view (Ok x) h = is_valid m (view x) h
-of_searched m view (Err e) h = tt
+of_searched : (accept : ℕ) {X : Type 0} (m : Memory) (view : X → ℕ × List ℕ) (r : Result X AcpiError) → IsSearched accept m view r
+    → IfOk r (λ x. IsOk (accepted_rsdp_at accept m (view x).0))
+of_searched accept m view (Ok x) h = is_valid accept m (view x) h
+of_searched accept m view (Err e) h = tt
 
-pub found_valid : {H T : Type 0} {h t : _} (m : Memory) (r : Result (PhysicalMapping H T h t) AcpiError)
-    → Gives placed r (found_rsdp m) → IfOk r (λ x. IsOk (rsdp_at m (start_of x)))
-found_valid m r given = of_searched m placed r (searched m placed r given)
+pub found_valid : (accept : ℕ) {H T : Type 0} {h t : _} (m : Memory) (r : Result (PhysicalMapping H T h t) AcpiError)
+    → Gives placed r (accepted_found_rsdp accept m) → IfOk r (λ x. IsOk (accepted_rsdp_at accept m (start_of x)))
+found_valid accept m r given = of_searched accept m placed r (searched accept m placed r given)
 
 -- ---- bytes that hold all checks of an RSDP are a valid RSDP if a memory has them
 
@@ -269,7 +269,7 @@ rsdp_front b = rw (
 ) refl
 
 length_front : (b : List ℕ) → checked_length (take 36 b) ≡ checked_length b
-unfolding checked_length check_first
+unfolding accepted_length check_first
 length_front b = rw (rsdp_front b, take-take 20 36 b (lit≤ tt)) refl
 
 pub whole_there : (m : Memory) (a : ℕ) (b : List ℕ) (n : Option ℕ) → at m a (length b) ≡ Some b
@@ -283,7 +283,7 @@ whole_there m a b (Some n) here whole =
 
 is_there : (m : Memory) (a : ℕ) (b head : List ℕ) (n : Option ℕ) → lent m a 36 ≡ Ok head → checked_length head ≡ Ok n
     → check_whole (lent m a) n ≡ Ok tt → rsdp_at m a ≡ Ok head
-unfolding rsdp_at
+unfolding accepted_rsdp_at
 is_there m a b head n first long whole = rw (first, long, whole) refl
 
 pub valid_there : (m : Memory) (a : ℕ) (b : List ℕ) → 36 ≤ length b → at m a (length b) ≡ Some b → check_rsdp b ≡ Ok tt

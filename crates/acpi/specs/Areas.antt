@@ -3,9 +3,9 @@ use Rattle.std.specs.Prelude.{◌≡◌, ℕ, ◌+◌, ◌-◌, ◌*◌, ◌/◌
 use Rattle.acpi_base.specs.FromStd.{AllByRecursion, option_or}
 use Rattle.acpi_base.specs.Words.{part, Memory, Ranges, ◌>>=◌}
 use Rattle.acpi.specs.Types.{AcpiError, NoValidRsdp, AddressRange}
-use Rattle.acpi.specs.Opened.{Opened, opened_from}
-use Rattle.acpi.specs.OpenedRanges.{opened_ranges, or_else_ranges, walk_ranges}
-use Rattle.acpi.specs.Rsdp.{checked_length, root_of_rsdp, rsdp_at}
+use Rattle.acpi.specs.Opened.{Opened, accepted_opened}
+use Rattle.acpi.specs.OpenedRanges.{or_else_ranges, root_ranges_of, walk_ranges}
+use Rattle.acpi.specs.Rsdp.{accepted_length, accepted_root, accepted_rsdp_at}
 use Rattle.acpi.specs.Search.{IsRefused, walk}
 use Rattle.acpi_base.specs.Ranges as ranges
 
@@ -24,26 +24,26 @@ abbrev pub IsCandidateIn : AddressRange → ℕ → Type 0
 IsCandidateIn s a = (k : ℕ) × (a ≡ 16 * k) × (s.address ≤ a) × (a + 20 ≤ end_of s)
 
 -- no candidate of an area is valid
-abbrev pub NoneIn : Memory → AddressRange → Type 0
-NoneIn m s = (a : ℕ) → IsCandidateIn s a → IsRefused m a
+abbrev pub NoneIn : ℕ → Memory → AddressRange → Type 0
+NoneIn accept m s = (a : ℕ) → IsCandidateIn s a → IsRefused accept m a
 
 -- the areas are some, then this one, then others; it has this valid candidate, and none before that is
 -- valid, neither in this area nor in those before
-pub record IsFirstIn (m : Memory) (areas : List AddressRange) (found : ℕ × List ℕ) : Type 0 where
+pub record IsFirstIn (accept : ℕ) (m : Memory) (areas : List AddressRange) (found : ℕ × List ℕ) : Type 0 where
   pub before : List AddressRange
   pub area : AddressRange
   pub after : List AddressRange
   pub listed : areas ≡ before ++ area ∷ after
-  pub none_before : AllByRecursion (NoneIn m) before
+  pub none_before : AllByRecursion (NoneIn accept m) before
   pub candidate : IsCandidateIn area found.0
-  pub valid : rsdp_at m found.0 ≡ Ok found.1
-  pub least : (a : ℕ) → a < found.0 → IsCandidateIn area a → IsRefused m a
+  pub valid : accepted_rsdp_at accept m found.0 ≡ Ok found.1
+  pub least : (a : ℕ) → a < found.0 → IsCandidateIn area a → IsRefused accept m a
 
 -- what a search returned, seen by view, is the first valid candidate, or NoValidRsdp if there is none
-abbrev pub IsSearchedIn : {X : Type 0} → Memory → List AddressRange → (X → ℕ × List ℕ)
+abbrev pub IsSearchedIn : {X : Type 0} → ℕ → Memory → List AddressRange → (X → ℕ × List ℕ)
     → Result X AcpiError → Type 0
-IsSearchedIn m areas view (Ok x) = IsFirstIn m areas (view x)
-IsSearchedIn m areas view (Err e) = (e ≡ NoValidRsdp) × AllByRecursion (NoneIn m) areas
+IsSearchedIn accept m areas view (Ok x) = IsFirstIn accept m areas (view x)
+IsSearchedIn accept m areas view (Err e) = (e ≡ NoValidRsdp) × AllByRecursion (NoneIn accept m) areas
 
 -- ---- step by step
 
@@ -56,42 +56,52 @@ abbrev pub count_in : AddressRange → ℕ
 count_in s = (end_of s - first_in s - 4) / 16
 
 -- the first valid one, if it has one
-abbrev pub walk_in : Memory → AddressRange → Option (ℕ × List ℕ)
-walk_in m s = walk m (count_in s) (first_in s)
+abbrev pub walk_in : ℕ → Memory → AddressRange → Option (ℕ × List ℕ)
+walk_in accept m s = walk accept m (count_in s) (first_in s)
 
 -- that of the first area that has one
-abbrev pub found_among : Memory → List AddressRange → Option (ℕ × List ℕ)
-found_among m [] = None
-found_among m (s ∷ areas) = option_or (walk_in m s) (found_among m areas)
+abbrev pub found_among : ℕ → Memory → List AddressRange → Option (ℕ × List ℕ)
+found_among accept m [] = None
+found_among accept m (s ∷ areas) = option_or (walk_in accept m s) (found_among accept m areas)
 
 -- the RSDP that the areas have, or the error. What to believe is `IsSearchedIn`: `Rsdp::search_in` has a clause for
 -- each of the two
-unfoldable pub found_in_areas : Memory → List AddressRange → Result (ℕ × List ℕ) AcpiError
-found_in_areas m areas = ok_or (found_among m areas) NoValidRsdp
+unfoldable pub accepted_in_areas : ℕ → Memory → List AddressRange → Result (ℕ × List ℕ) AcpiError
+accepted_in_areas accept m areas = ok_or (found_among accept m areas) NoValidRsdp
+
+-- no check is given up
+abbrev pub found_in_areas : Memory → List AddressRange → Result (ℕ × List ℕ) AcpiError
+found_in_areas = accepted_in_areas 0
 
 -- the root table that it leads to
+abbrev pub accepted_opened_in_areas : ℕ → Memory → List AddressRange → Result Opened AcpiError
+accepted_opened_in_areas accept m areas = do
+  found ← accepted_in_areas accept m areas
+  accepted_opened accept m (accepted_root accept m found)
+
 abbrev pub opened_in_areas : Memory → List AddressRange → Result Opened AcpiError
-opened_in_areas m areas = do
-  found ← found_in_areas m areas
-  opened_from m (root_of_rsdp found.1)
+opened_in_areas = accepted_opened_in_areas 0
 
 -- bytes contain a candidate's at an offset, and its own checks fail for these
-abbrev pub is_refused_in : List ℕ → ℕ → Bool
-is_refused_in b offset =
-    nat_le 36 (length (drop offset b)) && is_err (checked_length (part b offset 36))
+abbrev pub is_refused_in : ℕ → List ℕ → ℕ → Bool
+is_refused_in accept b offset =
+    nat_le 36 (length (drop offset b)) && is_err (accepted_length accept (part b offset 36))
 
 -- ---- ranges
 
--- the ranges of `found_in_areas`: each candidate's, up to and with the first valid one
-abbrev pub areas_ranges : Memory → List AddressRange → Ranges
-areas_ranges m [] = []
-areas_ranges m (s ∷ areas) =
-    walk_ranges m (count_in s) (first_in s) ++ or_else_ranges (walk_in m s) (areas_ranges m areas)
+-- the ranges of `accepted_in_areas`: each candidate's, up to and with the first valid one
+abbrev pub areas_ranges : ℕ → Memory → List AddressRange → Ranges
+areas_ranges accept m [] = []
+areas_ranges accept m (s ∷ areas) =
+    walk_ranges accept m (count_in s) (first_in s) ++ or_else_ranges (walk_in accept m s) (areas_ranges accept m areas)
 
--- the ranges of `opened_in_areas`
+-- the ranges of `accepted_opened_in_areas`
+abbrev pub accepted_opened_in_areas_ranges : ℕ → Memory → List AddressRange → Ranges
+accepted_opened_in_areas_ranges accept m areas = areas_ranges accept m areas
+    ++ ranges.◌>>=◌ (accepted_in_areas accept m areas) (root_ranges_of accept m)
+
 abbrev pub opened_in_areas_ranges : Memory → List AddressRange → Ranges
-opened_in_areas_ranges m areas = areas_ranges m areas
-    ++ ranges.◌>>=◌ (found_in_areas m areas) (λ found. opened_ranges m (root_of_rsdp found.1))
+opened_in_areas_ranges = accepted_opened_in_areas_ranges 0
 
 -- ---- the areas of a BIOS
 

@@ -3,8 +3,8 @@ use Rattle.std.specs.Prelude.{ℕ, List, Result, Ok}
 use Rattle.acpi.specs.Types.{AcpiError, RootKind, RootPointer}
 use Rattle.acpi_base.specs.Words.{Memory, ◌>>=◌}
 use Rattle.acpi.specs.Root.{accepted_root_at, root_at, root_of_revision}
-use Rattle.acpi.specs.Rsdp.{root_of_rsdp, rsdp_at}
-use Rattle.acpi.specs.Search.{found_rsdp}
+use Rattle.acpi.specs.Rsdp.{accepted_root, accepted_rsdp_at}
+use Rattle.acpi.specs.Search.{accepted_found_rsdp}
 use Rattle.acpi.specs.Tables.{kind_of, revision_of, root_address_of, root_of}
 use Rattle.acpi.specs.declared.tables.AcpiTables.{AcpiTables}
 
@@ -40,14 +40,20 @@ accepted_opened accept m place = do
 abbrev pub opened_at : Memory → ℕ × ℕ → Result Opened AcpiError
 opened_at m given = opened_from m (root_of_revision given.0 given.1)
 
--- by the RSDP at an address
-abbrev pub opened_by_rsdp : Memory → ℕ → Result Opened AcpiError
-opened_by_rsdp m a = do
-  rsdp ← rsdp_at m a
-  opened_from m (root_of_rsdp rsdp)
+-- by the RSDP at an address, if it and the root table are accepted
+abbrev pub accepted_opened_by_rsdp : ℕ → Memory → ℕ → Result Opened AcpiError
+accepted_opened_by_rsdp accept m a = do
+  rsdp ← accepted_rsdp_at accept m a
+  accepted_opened accept m (accepted_root accept m (a, rsdp))
 
--- by the RSDP that the search of the BIOS areas finds
+abbrev pub opened_by_rsdp : Memory → ℕ → Result Opened AcpiError
+opened_by_rsdp = accepted_opened_by_rsdp 0
+
+-- by the RSDP that the search of the BIOS areas finds, if the root table is accepted
+abbrev pub accepted_opened_by_search : ℕ → Memory → Result Opened AcpiError
+accepted_opened_by_search accept m = do
+  found ← accepted_found_rsdp accept m
+  accepted_opened accept m (accepted_root accept m found)
+
 abbrev pub opened_by_search : Memory → Result Opened AcpiError
-opened_by_search m = do
-  found ← found_rsdp m
-  opened_from m (root_of_rsdp found.1)
+opened_by_search = accepted_opened_by_search 0

@@ -3,7 +3,7 @@ use Rattle.std.specs.Prelude.{◌≡◌, ◌⊎◌, ℕ, zero, suc, ◌+◌, ◌
 use Rattle.acpi.specs.Types.{AcpiError, MapFailed, NoValidRsdp, PhysicalMapping, Area}
 use Rattle.acpi_base.specs.Words.{field_of, start_of, bytes_of, Memory, at, ◌>>=◌, lent}
 use Rattle.acpi.specs.Later.{or_later}
-use Rattle.acpi.specs.Rsdp.{rsdp_at}
+use Rattle.acpi.specs.Rsdp.{accepted_rsdp_at}
 
 -- the addresses from start to below end
 abbrev pub area : ℕ → ℕ → Area
@@ -31,9 +31,9 @@ placed m = (start_of m, bytes_of m)
 abbrev pub IsCandidate : Area → ℕ → Type 0
 IsCandidate s a = (k : ℕ) × (a ≡ s.start + 16 * k) × (a + 20 ≤ s.end)
 
--- no RSDP is valid there
-abbrev pub IsRefused : Memory → ℕ → Type 0
-IsRefused m a = (e : AcpiError) × (rsdp_at m a ≡ Err e)
+-- no RSDP is accepted there
+abbrev pub IsRefused : ℕ → Memory → ℕ → Type 0
+IsRefused accept m a = (e : AcpiError) × (accepted_rsdp_at accept m a ≡ Err e)
 
 -- an area is requested with 16 bytes after it
 abbrev pub room_of : Area → ℕ
@@ -44,42 +44,42 @@ abbrev pub IsLent : Memory → Area → Type 0
 IsLent m s = (b : List ℕ) × (at m s.start (room_of s) ≡ Some b)
 
 -- the area is mapped, and this is its least valid candidate
-pub record IsLeast (m : Memory) (s : Area) (found : ℕ × List ℕ) : Type 0 where
+pub record IsLeast (accept : ℕ) (m : Memory) (s : Area) (found : ℕ × List ℕ) : Type 0 where
   pub lent : IsLent m s
   pub candidate : IsCandidate s found.0
-  pub valid : rsdp_at m found.0 ≡ Ok found.1
-  pub least : (a : ℕ) → a < found.0 → IsCandidate s a → IsRefused m a
+  pub valid : accepted_rsdp_at accept m found.0 ≡ Ok found.1
+  pub least : (a : ℕ) → a < found.0 → IsCandidate s a → IsRefused accept m a
 
 -- the area is mapped, and no candidate is valid
-pub record HasNone (m : Memory) (s : Area) : Type 0 where
+pub record HasNone (accept : ℕ) (m : Memory) (s : Area) : Type 0 where
   pub lent : IsLent m s
-  pub refused : (a : ℕ) → IsCandidate s a → IsRefused m a
+  pub refused : (a : ℕ) → IsCandidate s a → IsRefused accept m a
 
 -- the word at 40:0Eh of the BIOS data area is mapped, and this is the second area
 abbrev pub IsSecond : Memory → Area → Type 0
 IsSecond m s = (b : List ℕ) × (at m 0x40e 2 ≡ Some b) × (s ≡ second_area (field_of b 0 2))
 
 -- the least valid candidate of the first area, or if that has none, of the second
-abbrev pub IsFound : Memory → ℕ × List ℕ → Type 0
-IsFound m found =
+abbrev pub IsFound : ℕ → Memory → ℕ × List ℕ → Type 0
+IsFound accept m found =
     (s : Area) × IsSecond m s
-    × (IsLeast m first_area found ⊎ (HasNone m first_area × IsLeast m s found))
+    × (IsLeast accept m first_area found ⊎ (HasNone accept m first_area × IsLeast accept m s found))
 
 -- no area has a valid candidate
-abbrev pub IsMissing : Memory → Type 0
-IsMissing m = (s : Area) × IsSecond m s × HasNone m first_area × HasNone m s
+abbrev pub IsMissing : ℕ → Memory → Type 0
+IsMissing accept m = (s : Area) × IsSecond m s × HasNone accept m first_area × HasNone accept m s
 
 -- the word isn't mapped, or the first area, or the second if the first has no valid candidate
-abbrev pub IsUnmapped : Memory → Type 0
-IsUnmapped m =
+abbrev pub IsUnmapped : ℕ → Memory → Type 0
+IsUnmapped accept m =
     (at m 0x40e 2 ≡ None)
     ⊎ ((at m first_area.start (room_of first_area) ≡ None)
-    ⊎ ((s : Area) × IsSecond m s × HasNone m first_area × (at m s.start (room_of s) ≡ None)))
+    ⊎ ((s : Area) × IsSecond m s × HasNone accept m first_area × (at m s.start (room_of s) ≡ None)))
 
 -- what a search returned, seen by view, is the least valid candidate, or the error has its cause
-abbrev pub IsSearched : {X : Type 0} → Memory → (X → ℕ × List ℕ) → Result X AcpiError → Type 0
-IsSearched m view (Ok x) = IsFound m (view x)
-IsSearched m view (Err e) = ((e ≡ MapFailed) × IsUnmapped m) ⊎ ((e ≡ NoValidRsdp) × IsMissing m)
+abbrev pub IsSearched : {X : Type 0} → ℕ → Memory → (X → ℕ × List ℕ) → Result X AcpiError → Type 0
+IsSearched accept m view (Ok x) = IsFound accept m (view x)
+IsSearched accept m view (Err e) = ((e ≡ MapFailed) × IsUnmapped accept m) ⊎ ((e ≡ NoValidRsdp) × IsMissing accept m)
 
 -- ---- step by step
 
@@ -88,15 +88,15 @@ abbrev pub count_of : Area → ℕ
 count_of s = (s.end - s.start - 4) / 16
 
 -- the first valid of n candidates from an address on
-abbrev pub walk : Memory → ℕ → ℕ → Option (ℕ × List ℕ)
-walk m zero a = None
-walk m (suc n) a = or_later (λ b. Some (a, b)) (rsdp_at m a) (walk m n (a + 16))
+abbrev pub walk : ℕ → Memory → ℕ → ℕ → Option (ℕ × List ℕ)
+walk accept m zero a = None
+walk accept m (suc n) a = or_later (λ b. Some (a, b)) (accepted_rsdp_at accept m a) (walk accept m n (a + 16))
 
 -- the first valid candidate of an area, if it has one
-unfoldable pub found_in : Memory → Area → Result (Option (ℕ × List ℕ)) AcpiError
-found_in m s = do
+unfoldable pub found_in : ℕ → Memory → Area → Result (Option (ℕ × List ℕ)) AcpiError
+found_in accept m s = do
   _ ← lent m s.start (room_of s)
-  Ok (walk m (count_of s) s.start)
+  Ok (walk accept m (count_of s) s.start)
 
 -- the word at 40:0Eh of the BIOS data area, the segment of the EBDA: it names the second area
 unfoldable pub word_in : Memory → Result ℕ AcpiError
@@ -110,15 +110,19 @@ or_else (Some found) later = Ok found
 or_else None later = later
 
 -- what the area that is searched last has, or the error
-abbrev pub last_in : Memory → Area → Result (ℕ × List ℕ) AcpiError
-last_in m s = do
-  found ← found_in m s
+abbrev pub last_in : ℕ → Memory → Area → Result (ℕ × List ℕ) AcpiError
+last_in accept m s = do
+  found ← found_in accept m s
   or_else found (Err NoValidRsdp)
 
--- the RSDP that the areas have, or the error. What to believe is `IsSearched`: `Rsdp::search_for_on_bios` has a clause
--- for each of the two
-unfoldable pub found_rsdp : Memory → Result (ℕ × List ℕ) AcpiError
-found_rsdp m = do
+-- the RSDP that the areas have and the bits of `accept` accept, or the error. What to believe is `IsSearched`:
+-- `Rsdp::search_for_on_bios` has a clause for each of the two
+unfoldable pub accepted_found_rsdp : ℕ → Memory → Result (ℕ × List ℕ) AcpiError
+accepted_found_rsdp accept m = do
   word ← word_in m
-  first ← found_in m first_area
-  or_else first (last_in m (second_area word))
+  first ← found_in accept m first_area
+  or_else first (last_in accept m (second_area word))
+
+-- no check is given up
+abbrev pub found_rsdp : Memory → Result (ℕ × List ℕ) AcpiError
+found_rsdp = accepted_found_rsdp 0

@@ -4,6 +4,8 @@ pub use Rattle.acpi.specs.Areas.{
   IsFirstIn,
   IsSearchedIn,
   NoneIn,
+  accepted_opened_in_areas,
+  accepted_opened_in_areas_ranges,
   areas_ranges,
   bios_areas,
   count_in,
@@ -11,12 +13,13 @@ pub use Rattle.acpi.specs.Areas.{
   end_of,
   first_in,
   found_among,
+  found_in_areas,
   is_refused_in,
   opened_in_areas,
   opened_in_areas_ranges,
   walk_in,
 }
-unfoldable pub use Rattle.acpi.specs.Areas.{found_in_areas}
+unfoldable pub use Rattle.acpi.specs.Areas.{accepted_in_areas}
 pub use Rattle.acpi.specs.Ecam.{
   IsBeside,
   ecam_address,
@@ -84,6 +87,8 @@ unfoldable pub use Rattle.acpi.specs.Members.{found_at}
 pub use Rattle.acpi.specs.Opened.{
   Opened,
   accepted_opened,
+  accepted_opened_by_rsdp,
+  accepted_opened_by_search,
   opened_at,
   opened_by_rsdp,
   opened_by_search,
@@ -91,14 +96,21 @@ pub use Rattle.acpi.specs.Opened.{
   opened_of,
 }
 pub use Rattle.acpi.specs.OpenedRanges.{
+  accepted_opened_by_rsdp_ranges,
+  accepted_opened_by_search_ranges,
   accepted_opened_ranges,
+  accepted_rsdp_ranges,
+  accepted_search_ranges,
   area_ranges,
+  extended_ranges,
   length_ranges,
   opened_by_rsdp_ranges,
   opened_by_search_ranges,
   opened_ranges,
   or_else_ranges,
+  reading_ranges,
   root_and_ranges,
+  root_ranges_of,
   rsdp_ranges,
   search_ranges,
   walk_ranges,
@@ -184,20 +196,26 @@ pub use Rattle.acpi.specs.Root.{
 }
 unfoldable pub use Rattle.acpi.specs.Root.{pointers}
 pub use Rattle.acpi.specs.Rsdp.{
+  accepted_root,
+  accepted_rsdp,
   at_hand,
+  check_extended,
   check_length,
   check_whole,
+  checked_length,
   extended_length_of,
+  is_first_enough,
   root_of_rsdp,
   rsd_ptr,
+  rsdp_at,
   unless_first,
 }
 unfoldable pub use Rattle.acpi.specs.Rsdp.{
+  accepted_length,
+  accepted_rsdp_at,
   check_first,
   check_rsdp,
   check_sum,
-  checked_length,
-  rsdp_at,
   rsdp_of,
 }
 pub use Rattle.acpi.specs.Search.{
@@ -211,6 +229,7 @@ pub use Rattle.acpi.specs.Search.{
   area,
   count_of,
   first_area,
+  found_rsdp,
   last_in,
   or_else,
   placed,
@@ -219,8 +238,8 @@ pub use Rattle.acpi.specs.Search.{
   walk,
 }
 unfoldable pub use Rattle.acpi.specs.Search.{
+  accepted_found_rsdp,
   found_in,
-  found_rsdp,
   word_in,
 }
 pub use Rattle.acpi.specs.Tables.{

@@ -1,19 +1,18 @@
-//! Which tables a caller accepts.
+//! Which tables, and which RSDP, a caller accepts.
 ghost use Rattle.std.specs.Prelude.{◌≡◌, ℕ, IfOk};
 ghost use Rattle.acpi_base.specs.Words.{Allows, Gives, IsOfMemory, accepted, bytes_of, handler_of, start_of, table_at, table_ranges};
 
 use acpi_base::table::accepted_at;
 use acpi_base::{AcpiResult, AcpiTable, Lender, PhysicalMapping};
 
-/// Which checks of tables a caller gives up. Each table that is valid is accepted, and each that fails no other check:
-/// a policy only ever accepts more. For a type with a check of its own (`AcpiTable::validate`) that check stays: an
-/// error of a sum or an id that is given up doesn't count if it is the first, and after one of an id only the sum is
-/// left to check.
+/// Which checks of tables and of the RSDP a caller gives up. Each table that is valid is accepted, and each that fails no
+/// other check: a policy only ever accepts more. What only one type of table has to pass (`AcpiTable::check_own`) is
+/// never given up.
 pub trait Policy: Copy {
-    // By bit 0 a table's sum may be any, by bit 1 both of its ids.
+    // The bits of `Accept`.
     ghost bits: { Self → ℕ };
 
-    /// The checks that are given up: bit 0 is that of a table's sum, bit 1 that of both its ids. No other bit counts.
+    /// The checks that are given up, as the bits of `Accept`.
     fn bits(&self) -> u32
         ensures { result ≡ bits self.now };
 }
@@ -34,7 +33,9 @@ impl Policy for Valid {
 /// Accepts tables that fail some checks, as a kernel does that wants to boot on bad firmware.
 #[derive(Clone, Copy, Debug)]
 pub struct Accept {
-    /// By bit 0 a table's sum may be any, by bit 1 both of its ids (section 5.2.6). No other bit counts.
+    /// By bit 0 a table's sum may be any, by bit 1 both of its ids (section 5.2.6). Of an RSDP (section 5.2.5.3), by bit 2
+    /// the OEM id may be any, by bit 3 revision 1 is read as 0, and by bit 4 one of which only the first 20 bytes pass
+    /// their checks is read by these, as one of revision 0. No other bit counts.
     pub bits: u32,
 }
 

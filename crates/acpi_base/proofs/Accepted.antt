@@ -1,9 +1,9 @@
 -- What is left to check of a table that a caller accepts.
-use Rattle.std.proofs.Common.{◌≡◌, ℕ, ◌≤◌, ◌∙◌, List, Bool, true, false, ◌==◌, ◌||◌, Result, Ok, Err, ap, arith, refl, subst, sym, length, bytes_eq, if◌then◌else◌}
+use Rattle.std.proofs.Common.{◌≡◌, ℕ, ◌≤◌, ◌∙◌, List, Bool, true, false, ◌==◌, ◌||◌, Option, Some, None, Result, Ok, Err, ap, arith, refl, subst, sym, length, bytes_eq, if◌then◌else◌}
 use Rattle.acpi_base.proofs.FromStd.{eqb-true, leb-true, ne_eqb}
-use Rattle.acpi_base.proofs.OwnTable.{Passed, checked_last, is_whole, length_there, names_there, no_header, names_and_sum, only_sum_left, passed, passes, refused_by_names, signature_first}
+use Rattle.acpi_base.proofs.OwnTable.{Passed, checked_last, is_whole, length_there, names_there, no_header, names_and_sum, only_sum_left, own_after, passed, passes, refused_by_names, signature_first}
 use Rattle.acpi_bytes.proofs.Steps.{bind_ok}
-use Rattle.acpi_base.specs.Words.{AcceptsNothing, AcceptsValid, AcpiError, IsGivenUp, KeepsChecks, KeepsNames, KeepsSums, Kind, Memory, OwnIsValid, SdtHeader, SdtInvalidChecksum, SdtInvalidOemId, SdtInvalidSignature, SdtInvalidTableId, Signature, accepted, check_ids, check_names, check_signature, has_bit, header_at, holds, left_of, lent, loosened, own_accepted, part, sdt_kind, sum_of, table_at, unchecked, whole_ranges, ◌>>=◌}
+use Rattle.acpi_base.specs.Words.{AcceptsNothing, AcceptsValid, AcpiError, IsGivenUp, KeepsChecks, KeepsNames, KeepsSums, Kind, Memory, OwnIsValid, SdtHeader, SdtInvalidChecksum, SdtInvalidOemId, SdtInvalidSignature, SdtInvalidTableId, Signature, accepted, and_own, check_ids, check_names, check_of, check_signature, has_bit, header_at, holds, left_of, lent, loosened, own_accepted, own_of, part, sdt_kind, sum_of, table_at, unchecked, whole_ranges, ◌>>=◌}
 
 -- ---- the signature comes first
 
@@ -105,31 +105,32 @@ pub strict_length : (m : Memory) (s : Signature) (least p : ℕ) (table : List �
     → table_at m (unchecked (accepted 0 (sdt_kind s least))) p ≡ Ok table → (header_at table).length ≡ length table
 strict_length m s least p table enough claimed = length_there m (sdt_kind s least) p table enough claimed
 
--- what is claimed is left to the kind's own check
+-- what is claimed is left to the kind's checks of bytes
 pub accepted_last : (accept : ℕ) (m : Memory) (k : Kind) (s : Signature) (least p : ℕ) → k.signature ≡ s
     → k.least ≡ least → k.names ≡ check_names s
     → table_at m (accepted accept k) p
-    ≡ (table_at m (unchecked (accepted accept (sdt_kind s least))) p >>= λ t. (accepted accept k).check t >>= λ _. Ok t)
+    ≡ (table_at m (unchecked (accepted accept (sdt_kind s least))) p >>= λ t. check_of (accepted accept k) t >>= λ _. Ok t)
 accepted_last accept m k s least p signature fits names =
     subst (λ u. table_at m (accepted accept k) p
-    ≡ (table_at m u p >>= λ t. (accepted accept k).check t >>= λ _. Ok t))
+    ≡ (table_at m u p >>= λ t. check_of (accepted accept k) t >>= λ _. Ok t))
     (own_unchecked accept k s least signature fits names) (checked_last m (accepted accept k) p)
 
 pub strict_last : (m : Memory) (k : Kind) (s : Signature) (least p : ℕ) → k.signature ≡ s → k.least ≡ least
     → k.names ≡ check_names s
     → table_at m k p
-    ≡ (table_at m (unchecked (accepted 0 (sdt_kind s least))) p >>= λ t. k.check t >>= λ _. Ok t)
+    ≡ (table_at m (unchecked (accepted 0 (sdt_kind s least))) p >>= λ t. check_of k t >>= λ _. Ok t)
 strict_last m k s least p signature fits names = accepted_last 0 m k s least p signature fits names
 
--- if some checks are given up, what is left of the kind's own check decides
+-- if some checks are given up, what is left of the others decides, and then the check of the type's own
 left_if : (any_sum any_ids : Bool) (k : Kind) (s : Signature) (b : List ℕ) → k.signature ≡ s
     → (any_sum || any_ids) ≡ true
-    → (loosened any_sum any_ids k).check b ≡ left_of any_sum any_ids s b (k.check b)
+    → check_of (loosened any_sum any_ids k) b ≡ and_own k.own b (left_of any_sum any_ids s b (k.check b))
 left_if any_sum any_ids k s b same some = rw (some, same) refl
 
 pub left_decides : (accept : ℕ) (k : Kind) (s : Signature) (b : List ℕ) → k.signature ≡ s
     → (has_bit accept 0 || has_bit accept 1) ≡ true
-    → (accepted accept k).check b ≡ left_of (has_bit accept 0) (has_bit accept 1) s b (k.check b)
+    → check_of (accepted accept k) b
+    ≡ and_own k.own b (left_of (has_bit accept 0) (has_bit accept 1) s b (k.check b))
 left_decides accept k s b same some = left_if (has_bit accept 0) (has_bit accept 1) k s b same some
 
 none_if : (any_sum any_ids : Bool) (k : Kind) → (any_sum || any_ids) ≡ false → loosened any_sum any_ids k ≡ k
@@ -197,6 +198,17 @@ checked_right true any_ids k b e = rw e refl
 checked_right false true k b e = rw e refl
 checked_right false false k b e = e
 
+-- both pass if the whole does, and the other way round
+both_pass : (own : Option (List ℕ → Result (Unit {0}) AcpiError)) (b : List ℕ) (checked : Result (Unit {0}) AcpiError)
+    → and_own own b checked ≡ Ok tt → (checked ≡ Ok tt) × (own_of own b ≡ Ok tt)
+both_pass own b (Ok tt) e = (refl, sym (own_after own b (Ok tt)) ∙ e)
+both_pass None b (Err d) e = absurd cc
+both_pass (Some own) b (Err d) e = absurd cc
+
+pass_both : (own : Option (List ℕ → Result (Unit {0}) AcpiError)) (b : List ℕ) (checked : Result (Unit {0}) AcpiError)
+    → checked ≡ Ok tt → own_of own b ≡ Ok tt → and_own own b checked ≡ Ok tt
+pass_both own b checked e f = own_after own b checked ∙ rw (e, f) refl
+
 pub accepts_valid : AcceptsValid
 accepts_valid accept m k p table names e =
     let h = passed m k p table e in
@@ -206,7 +218,9 @@ accepts_valid accept m k p table names e =
       names = names_left_if (has_bit accept 1) k (header_at h.head) names h.names;
       long = h.long;
       whole = h.whole;
-      checked = checked_right (has_bit accept 0) (has_bit accept 1) k table h.checked;
+      checked = pass_both k.own table _
+          (checked_right (has_bit accept 0) (has_bit accept 1) k table (both_pass k.own table _ h.checked).0)
+          (both_pass k.own table _ h.checked).1;
     })
 
 given_up : (any_sum any_ids : Bool) (accept : ℕ) (s : Signature) (b : List ℕ) (checked : Result (Unit {0}) AcpiError)
@@ -222,5 +236,5 @@ given_up_if false false accept k b sum ids e = rw e tt
 
 pub keeps_checks : KeepsChecks
 keeps_checks accept m k p table e =
-    given_up_if (has_bit accept 0) (has_bit accept 1) accept k table refl refl
-    (passed m (accepted accept k) p table e).checked
+    let both = both_pass k.own table _ (passed m (accepted accept k) p table e).checked in
+    (given_up_if (has_bit accept 0) (has_bit accept 1) accept k table refl refl both.0, both.1)

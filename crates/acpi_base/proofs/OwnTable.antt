@@ -2,12 +2,12 @@
 -- the
 -- signature that it has, has this one, and is as long. And memories that agree on the ranges of a table have the same
 -- table.
-use Rattle.std.proofs.Common.{◌≡◌, ℕ, ◌≤◌, Bool, true, false, ◌&&◌, ◌+◌, List, length, take, drop, lit≤, Option, Some, None, Result, Ok, Err, refl, sym, ap, subst, ◌∙◌, arith, if◌then◌else◌, ◌==◌, nat_le, bytes_eq}
+use Rattle.std.proofs.Common.{◌≡◌, ℕ, ◌≤◌, Bool, true, false, ◌&&◌, ◌+◌, List, [], ◌∷◌, length, take, drop, lit≤, Option, Some, None, Result, Ok, Err, refl, sym, ap, subst, ◌∙◌, arith, if◌then◌else◌, ◌==◌, nat_le, bytes_eq}
 use Rattle.acpi_base.specs.FromStd.{result_ok, is_utf8}
 use Rattle.acpi_base.proofs.FromStd.{and_from, and_parts, leb-true, le-leb, ne_eqb, drop-take, length-take-le, take-take, cond_some, bytes_eq-Decides, take-length}
 use Rattle.acpi_bytes.proofs.LentRanges.{at-front, lent_bytes}
 use Rattle.acpi_bytes.proofs.Steps.{bind_ok, holds_ok, some_lent, same_ok}
-use Rattle.acpi_base.specs.Words.{IsBytes, field_of, part, sum_of, unchecked, check_names, check_table, header_at, Memory, IsMemory, at, rest_from, DependsOn, accepted, own_accepted, own_accepted_ranges, own_kind, own_table_ranges, table_ranges, ◌>>=◌, holds, lent, kind, own_table_at, plain_kind, sdt_kind, table_at, Kind, AcpiError, SdtInvalidChecksum, SdtInvalidLength, SdtInvalidSignature, SdtHeader, Signature, letters_of}
+use Rattle.acpi_base.specs.Words.{IsBytes, field_of, part, sum_of, unchecked, and_own, check_names, check_of, own_of, check_table, header_at, Memory, IsMemory, at, rest_from, AgreesOn, DependsOn, accepted, own_accepted, own_accepted_ranges, own_kind, own_table_ranges, table_ranges, ◌>>=◌, holds, lent, kind, own_table_at, plain_kind, sdt_kind, table_at, Kind, AcpiError, SdtInvalidChecksum, SdtInvalidLength, SdtInvalidSignature, SdtHeader, Signature, letters_of}
 
 abbrev only : {A : Type 0} → Bool → Option A → Option A
 only b o = if b then o else None
@@ -33,7 +33,7 @@ pub record Passed (m : Memory) (k : Kind) (p : ℕ) (table : List ℕ) : Type 0 
   pub names : k.names (header_at head) ≡ Ok tt
   pub long : nat_le k.least (header_at head).length ≡ true
   pub whole : lent m p (header_at head).length ≡ Ok table
-  pub checked : k.check table ≡ Ok tt
+  pub checked : check_of k table ≡ Ok tt
 
 pub passed : (m : Memory) (k : Kind) (p : ℕ) (table : List ℕ) → table_at m k p ≡ Ok table → Passed m k p table
 unfolding table_at
@@ -42,7 +42,7 @@ passed m k p table e =
     let names = bind_ok (k.names (header_at head.0)) _ table head.2 in
     let long = holds_ok (nat_le k.least (header_at head.0).length) _ _ table names.2 in
     let whole = bind_ok (lent m p (header_at head.0).length) _ table long.1 in
-    let checked = bind_ok (k.check whole.0) _ table whole.2 in
+    let checked = bind_ok (check_of k whole.0) _ table whole.2 in
     let same : whole.0 ≡ table = same_ok whole.0 table checked.2 in
     record {
       head = head.0;
@@ -50,7 +50,7 @@ passed m k p table e =
       names = names.1;
       long = long.0;
       whole = subst (λ (b : List ℕ). lent m p (header_at head.0).length ≡ Ok b) same whole.1;
-      checked = subst (λ (b : List ℕ). k.check b ≡ Ok tt) same checked.1;
+      checked = subst (λ (b : List ℕ). check_of k b ≡ Ok tt) same checked.1;
     }
 
 pub passes : (m : Memory) (k : Kind) (p : ℕ) (table : List ℕ) → Passed m k p table → table_at m k p ≡ Ok table
@@ -121,11 +121,11 @@ pub own_accepted_is : (accept : ℕ) (m : Memory) (s : Signature) (p : ℕ) (hea
 unfolding own_accepted
 own_accepted_is accept m s p head front own = rw front (ap (λ x. table_at m (accepted accept (sdt_kind x 36)) p) own)
 
-own_of : (m : Memory) (s : Signature) (least p : ℕ) → 36 ≤ least → (table : List ℕ)
+own_from : (m : Memory) (s : Signature) (least p : ℕ) → 36 ≤ least → (table : List ℕ)
     → table_at m (kind s least (check_table s)) p ≡ Ok table
     → (own_accepted 0 m p ≡ Ok table) × (serves s least table ≡ true)
 unfolding table_at
-own_of m s least p enough table e =
+own_from m s least p enough table e =
     let h = passed m (kind s least (check_table s)) p table e in
     let is = is_whole m (kind s least (check_table s)) p table enough h in
     let own = is_named s (header_at h.head) h.names in
@@ -167,7 +167,7 @@ by_both s least (Err d) (Err e) there back = refl
 
 pub own_table_is : (m : Memory) (s : Signature) (least p : ℕ) → 36 ≤ least
     → result_ok (table_at m (kind s least (check_table s)) p) ≡ served s least (result_ok (own_accepted 0 m p))
-own_table_is m s least p enough = by_both s least _ _ (own_of m s least p enough) (of_own m s least p)
+own_table_is m s least p enough = by_both s least _ _ (own_from m s least p enough) (of_own m s least p)
 
 pub own_signature : (s : Signature) (head : List ℕ) → letters_of s ≡ part head 0 4 → (header_at head).signature ≡ s
 unfolding header_at
@@ -185,7 +185,7 @@ pub own_table : (m : Memory) (s : Signature) (p : ℕ) (head : List ℕ) → len
 unfolding header_at
 own_table m s p head front letters = own_accepted_is 0 m s p head front (ap the_signature (sym letters))
 
--- ---- before the kind's own check, and then only the sum is left
+-- ---- before the checks of bytes, and then only the sum is left
 
 -- what is known of a table that was claimed as one of a kind
 pub names_there : (m : Memory) (k : Kind) (p : ℕ) (table : List ℕ) → 36 ≤ k.least
@@ -199,7 +199,14 @@ pub length_there : (m : Memory) (k : Kind) (p : ℕ) (table : List ℕ) → 36 �
 length_there m k p table enough e =
     (is_whole m (unchecked k) p table enough (passed m (unchecked k) p table e)).1
 
--- the kind's own check is the last
+-- a check of a type's own comes after what is left of the others
+pub own_after : (own : Option (List ℕ → Result (Unit {0}) AcpiError)) (b : List ℕ)
+    (checked : Result (Unit {0}) AcpiError) → and_own own b checked ≡ (checked >>= λ _. own_of own b)
+own_after None b (Ok tt) = refl
+own_after None b (Err e) = refl
+own_after (Some own) b checked = refl
+
+-- the checks of bytes are the last
 check_last : (a b : Result (Unit {0}) AcpiError) (w : Result (List ℕ) AcpiError) (f : List ℕ
     → Result (List ℕ) AcpiError)
     → (a >>= λ _. b >>= λ _. w >>= f) ≡ ((a >>= λ _. b >>= λ _. w >>= λ t. Ok t) >>= f)
@@ -209,16 +216,16 @@ check_last (Ok x) (Err d) w f = refl
 check_last (Err d) b w f = refl
 
 check_after : (m : Memory) (k : Kind) (p : ℕ) (r : Result (List ℕ) AcpiError) → lent m p 36 ≡ r
-    → table_at m k p ≡ (table_at m (unchecked k) p >>= λ t. k.check t >>= λ _. Ok t)
+    → table_at m k p ≡ (table_at m (unchecked k) p >>= λ t. check_of k t >>= λ _. Ok t)
 unfolding table_at
 check_after m k p (Ok head) front =
     let long = holds (nat_le k.least (header_at head).length) (SdtInvalidLength k.signature) in
     rw front (check_last (k.names (header_at head)) long (lent m p (header_at head).length)
-    (λ t. k.check t >>= λ _. Ok t))
+    (λ t. check_of k t >>= λ _. Ok t))
 check_after m k p (Err d) front = rw front refl
 
 pub checked_last : (m : Memory) (k : Kind) (p : ℕ)
-    → table_at m k p ≡ (table_at m (unchecked k) p >>= λ t. k.check t >>= λ _. Ok t)
+    → table_at m k p ≡ (table_at m (unchecked k) p >>= λ t. check_of k t >>= λ _. Ok t)
 checked_last m k p = check_after m k p (lent m p 36) refl
 
 of_length : (s : Signature) (b : List ℕ) → nat_le 36 (length b) ≡ true → field_of b 4 4 ≡ length b
@@ -287,6 +294,10 @@ after : {A B : Type 0} (r : Result A AcpiError) (f g : A → Result B AcpiError)
     → (r >>= f) ≡ (r >>= g)
 after (Ok x) f g each = each x refl
 after (Err e) f g each = refl
+
+-- bytes depend on themselves
+pub same_lent : (m n : Memory) (a size : ℕ) → AgreesOn m n ((a, size) ∷ []) → lent n a size ≡ lent m a size
+same_lent m n a size h = rw (← h.0) refl
 
 -- a table depends on its ranges, whatever is asked of it
 pub same_table : (k : Kind) → DependsOn (λ m. table_ranges m k) (λ m. table_at m k)

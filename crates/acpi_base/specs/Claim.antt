@@ -1,5 +1,5 @@
 -- What a claim shows.
-use Rattle.std.specs.Prelude.{◌≡◌, ◌+◌, ◌^◌, ◌<◌, ◌≤◌, ℕ, List, length, take, Some, Ok}
+use Rattle.std.specs.Prelude.{◌≡◌, ◌+◌, ◌^◌, ◌<◌, ◌≤◌, ℕ, List, length, take, Some, None, Ok}
 use Rattle.acpi_bytes.specs.Memory.{Memory, at}
 use Rattle.acpi_bytes.specs.Table.{Kind}
 use Rattle.acpi_base.specs.declared.memory.claim.Claim.{Claim}
@@ -24,9 +24,9 @@ claimed_from c = c.handler.now
 abbrev pub IsLentOf : {H h : _} → Memory → Claim H h → Type 0
 IsLentOf m c = at m (claimed_at c) (length (all_of c)) ≡ Some (all_of c)
 
--- a kind without its own check: what is claimed before the bytes are looked at
+-- a kind without checks of bytes: what is claimed before these are looked at
 abbrev pub unchecked : Kind → Kind
-unchecked k = record { signature = k.signature; least = k.least; names = k.names; check = λ _. Ok tt }
+unchecked k = record { signature = k.signature; least = k.least; names = k.names; check = λ _. Ok tt; own = None }
 
 -- it shows at least this number of bytes and fewer than 2^32, at the place and from the handler of the claim of their
 -- header, all mapped bytes are the memory's, and they end below 2^64

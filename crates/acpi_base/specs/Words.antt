@@ -322,7 +322,10 @@ pub use Rattle.acpi_bytes.specs.Text.{
 }
 pub use Rattle.acpi_bytes.specs.Words.{
   access_size_of,
+  and_own,
+  check_of,
   is_named_space,
+  own_of,
   size_code,
   space_code,
   space_of,

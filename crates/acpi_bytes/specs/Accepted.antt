@@ -6,9 +6,9 @@ use Rattle.acpi_bytes.specs.Bytes.{sum_of}
 use Rattle.acpi_bytes.specs.Header.{check_names, check_signature, header_at}
 use Rattle.acpi_bytes.specs.Memory.{Memory}
 use Rattle.acpi_bytes.specs.Steps.{◌>>=◌, holds, lent}
-use Rattle.acpi_bytes.specs.Table.{Kind, plain_kind, sdt_kind, table_at}
+use Rattle.acpi_bytes.specs.Table.{Kind, own_of, plain_kind, sdt_kind, table_at}
 
--- what is left of the result of a kind's own check of bytes: an error of the sum counts only if no sum is given up, and
+-- what is left of the result of a kind's check of bytes: an error of the sum counts only if no sum is given up, and
 -- one of an id only if no ids are; after one of an id that is given up, only the sum is left to check
 abbrev pub left_of : Bool → Bool → Signature → List ℕ → Result (Unit {0}) AcpiError → Result (Unit {0}) AcpiError
 left_of any_sum any_ids s b (Err (SdtInvalidChecksum t)) = holds any_sum (SdtInvalidChecksum t)
@@ -18,13 +18,14 @@ left_of any_sum false s b (Err (SdtInvalidTableId t)) = Err (SdtInvalidTableId t
 left_of any_sum true s b (Err (SdtInvalidTableId t)) = holds (any_sum || sum_of b == 0) (SdtInvalidChecksum s)
 left_of any_sum any_ids s b checked = checked
 
--- a kind whose tables may have any sum, any ids, or both. Its own check stays, up to an error that is given up
+-- a kind whose tables may have any sum, any ids, or both. A check of its own stays
 abbrev pub loosened : Bool → Bool → Kind → Kind
 loosened any_sum any_ids k = record {
   signature = k.signature;
   least = k.least;
   names = if any_ids then check_signature k.signature else k.names;
   check = if any_sum || any_ids then (λ b. left_of any_sum any_ids k.signature b (k.check b)) else k.check;
+  own = k.own;
 }
 
 -- a kind with the checks that are left by the bits of `accept`: bit 0 skips the sum, bit 1 the ids
@@ -61,7 +62,7 @@ abbrev pub AcceptsValid : Type 0
 AcceptsValid = (accept : ℕ) (m : Memory) (k : Kind) (p : ℕ) (table : List ℕ) → k.names ≡ check_names k.signature
     → table_at m k p ≡ Ok table → table_at m (accepted accept k) p ≡ Ok table
 
--- a kind's own check stays: its result is none, or an error of a check that is given up
+-- the result of a kind's check is none, or an error of a check that is given up
 abbrev pub IsGivenUp : ℕ → Result (Unit {0}) AcpiError → Type 0
 IsGivenUp accept (Ok tt) = Unit {0}
 IsGivenUp accept (Err (SdtInvalidChecksum t)) = has_bit accept 0 ≡ true
@@ -69,9 +70,11 @@ IsGivenUp accept (Err (SdtInvalidOemId t)) = has_bit accept 1 ≡ true
 IsGivenUp accept (Err (SdtInvalidTableId t)) = has_bit accept 1 ≡ true
 IsGivenUp accept (Err e) = ⊥
 
+-- of a table that is accepted no check fails but one that is given up, and never one of its type's own
 abbrev pub KeepsChecks : Type 0
 KeepsChecks = (accept : ℕ) (m : Memory) (k : Kind) (p : ℕ) (table : List ℕ)
-    → table_at m (accepted accept k) p ≡ Ok table → IsGivenUp accept (k.check table)
+    → table_at m (accepted accept k) p ≡ Ok table
+    → IsGivenUp accept (k.check table) × (own_of k.own table ≡ Ok tt)
 
 -- the sum is checked unless bit 0 skips it, whatever bit 1 is
 abbrev pub KeepsSums : Type 0

@@ -93,7 +93,12 @@ pub use Rattle.acpi_bytes.specs.Steps.{
   ◌>>=◌,
 }
 pub use Rattle.acpi_bytes.specs.Sums.{AddsUp}
-pub use Rattle.acpi_bytes.specs.Table.{sdt_kind}
+pub use Rattle.acpi_bytes.specs.Table.{
+  and_own,
+  check_of,
+  own_of,
+  sdt_kind,
+}
 pub use Rattle.acpi_bytes.specs.Text.{
   IsTextOf,
   bytes_text,

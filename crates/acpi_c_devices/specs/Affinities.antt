@@ -1,5 +1,5 @@
 -- What the SRAT puts into domains (section 5.2.16), as C gets it: the entries up to the first malformed front.
-use Rattle.std.specs.Prelude.{ℕ, List, filter_map, Option, Some, None, Result, if◌then◌else◌, option_and_then}
+use Rattle.std.specs.Prelude.{ℕ, List, replicate, filter_map, Option, Some, None, Result, if◌then◌else◌, option_and_then}
 use Rattle.acpi_base.specs.Words.{has_bit}
 use Rattle.acpi_numa.specs.Words.{entries_of, range_in}
 use Rattle.acpi_numa.specs.declared.srat.entry.SratEntry.{SratEntry}
@@ -16,6 +16,7 @@ memory_affinity r = if ends_below r then Some (record {
   domain = r.domain;
   is_hot_pluggable = flag r.is_hot_pluggable;
   is_non_volatile = flag r.is_non_volatile;
+  reserved = replicate 2 0;
 }) else None
 
 abbrev pub memory_shown : SratEntry → Option MemoryAffinity
@@ -32,6 +33,7 @@ processor_affinity kind id domain clock_domain = record {
   domain = domain;
   clock_domain = clock_domain;
   entry_type = kind;
+  reserved = replicate 3 0;
 }
 
 abbrev pub affinity_shown : SratEntry → Option ProcessorAffinity
@@ -46,6 +48,7 @@ initiator_shown (kinds.GenericInitiator e) = counted_if e.flags (record {
   is_architectural = flag (has_bit e.flags 1);  -- Architectural Transactions
   handle_type = e.handle_type;
   handle = e.device_handle;
+  reserved = replicate 2 0;
 })
 initiator_shown _ = None
 

@@ -9,7 +9,7 @@ use Rattle.acpi_c_devices.specs.Types.{is_some, field_of, baud_of, bus_of, clock
 
 -- a table's fixed fields, and its Interface Type
 abbrev pub console_record : Spcr → ℕ → Console
-console_record t interface = record {
+console_record t interface_type = record {
   base = register_if (base_of t);
   baud_rate = unwrap_or (baud_of t) 0;
   global_system_interrupt = unwrap_or (interrupt_of t) 0;
@@ -17,7 +17,7 @@ console_record t interface = record {
   pci_flags = t.pci_flags;
   pci_device_id = unwrap_or (device_id_of t) 0xffff;
   pci_vendor_id = unwrap_or (vendor_id_of t) 0xffff;
-  interface = interface;
+  interface_type = interface_type;
   irq = unwrap_or (irq_of t) 0;
   has_irq = flag (is_some (irq_of t));
   has_global_system_interrupt = flag (is_some (interrupt_of t));
@@ -28,6 +28,7 @@ console_record t interface = record {
   pci_bus = unwrap_or (bus_of t) 0;
   pci_device = unwrap_or (device_of t) 0;
   pci_function = unwrap_or (function_of t) 0;
+  reserved = 0;
 }
 
 -- the console of the first valid SPCR

@@ -1,5 +1,5 @@
 -- Registers, timers and the boot graphic as C gets them.
-use Rattle.std.specs.Prelude.{ℕ, ◌*◌, List, Option, Some, None, Result, Ok, Err, filter_map}
+use Rattle.std.specs.Prelude.{ℕ, ◌*◌, List, replicate, Option, Some, None, Result, Ok, Err, filter_map}
 use Rattle.acpi_base.specs.Words.{accepted, Memory, ◌>>=◌, table_at}
 use Rattle.acpi.specs.Types.{Bgrt}
 use Rattle.acpi.specs.Words.{lookup, timer_of, hpet_at, hpet_kind, info_of, protection_code, protection_of}
@@ -16,16 +16,17 @@ generic_record a = record {
   bit_width = a.bit_width;
   bit_offset = a.bit_offset;
   access_size = size_code a.access_size;
+  reserved = replicate 4 0;
 }
 
 abbrev pub no_register : records.GenericAddress
-no_register = record { address = 0; space = 0; bit_width = 0; bit_offset = 0; access_size = 0 }
+no_register = record { address = 0; space = 0; bit_width = 0; bit_offset = 0; access_size = 0; reserved = replicate 4 0 }
 
 -- a register; or zeros, and 0 if there is none or 2 if its address is an error
 abbrev pub optional_register : Result (Option GenericAddress) AcpiError → Register
-optional_register (Ok (Some a)) = record { at = generic_record a; present = 1 }
-optional_register (Ok None) = record { at = no_register; present = 0 }
-optional_register (Err e) = record { at = no_register; present = 2 }
+optional_register (Ok (Some a)) = record { at = generic_record a; present = 1; reserved = replicate 7 0 }
+optional_register (Ok None) = record { at = no_register; present = 0; reserved = replicate 7 0 }
+optional_register (Err e) = record { at = no_register; present = 2; reserved = replicate 7 0 }
 
 -- the same of a register that is there, unless its address is an error
 abbrev pub required_register : Result GenericAddress AcpiError → Register
@@ -40,8 +41,8 @@ register_if None = optional_register (Ok None)
 
 abbrev pub timer_record : Option PmTimer → records.PmTimer
 timer_record (Some t) =
-    record { base = generic_record t.base; present = 1; is_32_bit = flag t.supports_32bit }
-timer_record None = record { base = no_register; present = 0; is_32_bit = 0 }
+    record { base = generic_record t.base; present = 1; is_32_bit = flag t.supports_32bit; reserved = replicate 6 0 }
+timer_record None = record { base = no_register; present = 0; is_32_bit = 0; reserved = replicate 6 0 }
 
 -- the timer of the first valid FADT
 abbrev pub timer_in : ℕ → Memory → List ℕ → Result (Option PmTimer) AcpiError
@@ -62,6 +63,7 @@ graphic_record g = record {
   orientation = bits_of (status_of g) 1 2 * 90;
   displayed = flag (has_bit (status_of g) 0);
   image_type = rank_of (image_type_of g);
+  reserved = replicate 4 0;
 }
 
 -- the image of the first valid BGRT

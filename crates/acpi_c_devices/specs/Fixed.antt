@@ -1,5 +1,5 @@
 -- The fixed hardware (FADT, section 5.2.9) as C gets it.
-use Rattle.std.specs.Prelude.{ℕ, List, nat_lt, if◌then◌else◌, Option, Some, None, Result, Ok, Err}
+use Rattle.std.specs.Prelude.{ℕ, List, nat_lt, replicate, if◌then◌else◌, Option, Some, None, Result, Ok, Err}
 use Rattle.acpi_base.specs.FromStd.{result_unwrap_or}
 use Rattle.acpi_base.specs.Words.{field_of, generic_address_of, space_code}
 use Rattle.acpi_fixed.specs.Words.{dsdt_address_of, facs_address_of, fadt_at, pm_timer_of, profile_code, profile_of, registers_of, arm_bits, feature_bits, pc_bits, gpe_of, block_of, optional_block_of, register_of}
@@ -12,11 +12,17 @@ use Rattle.acpi_c_devices.specs.Types.{FixedHardware, Refusal, Source}
 
 -- no block of general purpose events: zeros, and 0 if there is none or 2 if its address is an error
 abbrev pub no_gpe : ℕ → records.GpeBlock
-no_gpe present = record { address = 0; space = 0; byte_length = 0; present = present }
+no_gpe present = record { address = 0; space = 0; byte_length = 0; present = present; reserved = replicate 5 0 }
 
 abbrev pub gpe_record : Result (Option GpeBlock) AcpiError → records.GpeBlock
 gpe_record (Ok (Some b)) =
-    record { address = b.address; space = space_code b.space; byte_length = b.byte_length; present = 1 }
+    record {
+      address = b.address;
+      space = space_code b.space;
+      byte_length = b.byte_length;
+      present = 1;
+      reserved = replicate 5 0;
+    }
 gpe_record (Ok None) = no_gpe 0
 gpe_record (Err e) = no_gpe 2
 
@@ -75,6 +81,7 @@ fixed_record f revision minor_revision hypervisor_id = record {
   revision = revision;
   minor_revision = minor_revision;
   hypervisor_id = hypervisor_id;
+  reserved = replicate 3 0;
 }
 
 -- the fixed hardware of the first valid FADT

@@ -1,5 +1,5 @@
 -- The units that remap devices' accesses to memory, as C gets them.
-use Rattle.std.specs.Prelude.{ℕ, ◌+◌, List, Option, Some, None, map, Result, Ok, Err, unwrap_or}
+use Rattle.std.specs.Prelude.{ℕ, ◌+◌, List, replicate, Option, Some, None, map, Result, Ok, Err, unwrap_or}
 use Rattle.acpi_base.specs.FromStd.{is_some}
 use Rattle.acpi_base.specs.Words.{◌>>=◌, sdt_kind}
 use Rattle.acpi.specs.Types.{DMAR, IVRS}
@@ -27,6 +27,7 @@ abbrev pub dmar_flags_record : Dmar → DmarFlags
 dmar_flags_record d = record {
   address_bits = d.host_address_width + 1;
   flags = d.flags;
+  reserved = 0;
 }
 
 abbrev pub dmar_flags_below : Source → Result DmarFlags Refusal
@@ -40,6 +41,7 @@ unit_record d = record {
   includes_pci_all = flag (includes_pci_all d);
   flags = d.flags;
   size = d.size;
+  reserved = replicate 3 0;
 }
 
 abbrev pub source_record : UnitSource → DmarSource
@@ -48,6 +50,7 @@ source_record u = record {
   bus = u.bus;
   hop = unwrap_or u.hop (record { device = 0; function = 0 });
   has_hop = flag (is_some u.hop);
+  reserved = replicate 4 0;
 }
 
 abbrev pub dmar_unit_below : Source → ℕ → ℕ → List Hop → Result DmarUnit Refusal
@@ -66,7 +69,7 @@ dmar_hpet_below s number = do
   found source_record (find_source 4 table number)
 
 abbrev pub reserved_record : Rmrr → DmarReserved
-reserved_record r = record { base = r.base; limit = r.limit; segment = r.segment }
+reserved_record r = record { base = r.base; limit = r.limit; segment = r.segment; reserved = replicate 6 0 }
 
 abbrev pub dmar_reserved_below : Source → ℕ → ℕ → List Hop → Result (List DmarReserved) Refusal
 dmar_reserved_below s segment bus hops =
@@ -90,6 +93,7 @@ block_record b = record {
   block_type = b.kind;
   flags = b.flags;
   has_extended_features = flag (is_some b.extended_features);
+  reserved = 0;
 }
 
 abbrev pub device_record : DeviceUnit → IvrsDevice
@@ -97,6 +101,7 @@ device_record d = record {
   unit = block_record d.unit;
   source_id = d.source;
   settings = d.settings;
+  reserved = replicate 5 0;
 }
 
 abbrev pub ivrs_unit_below : Source → ℕ → ℕ → Result IvrsDevice Refusal
@@ -112,6 +117,7 @@ memory_record m = record {
   auxiliary = m.auxiliary;
   block_type = m.kind;
   flags = m.flags;
+  reserved = replicate 2 0;
 }
 
 abbrev pub ivrs_memory_below : Source → ℕ → Result (List IvrsMemory) Refusal

@@ -36,6 +36,7 @@ scope_record s = record {
   enumeration_id = enumeration_id s;
   bus = start_bus s;
   path = path_shown (path_of s);
+  reserved = replicate 4 0;
 }
 
 abbrev pub structure_scopes_below : Source → ℕ → ℕ → Result (List DmarScope) Refusal
@@ -84,6 +85,7 @@ entry_shown e = record {
   compatible_id = hid_part e 12;  -- Compatible ID
   unique_id_format = unwrap_or (unique_id_format e) 0;
   unique_id = filled_part (unique_id e) 0 32;
+  reserved = 0;
 }
 
 abbrev pub ivrs_entries_below : Source → ℕ → Result (List IvrsEntry) Refusal

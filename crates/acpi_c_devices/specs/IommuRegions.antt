@@ -1,6 +1,6 @@
 -- What a DMAR (Intel Virtualization Technology for Directed I/O 4.0, chapter 8) and an IVRS (AMD I/O Virtualization
 -- Technology (IOMMU) Specification 3.08, section 5.2) have beside units, as C gets it.
-use Rattle.std.specs.Prelude.{ℕ, List, filter_map, Option, Some, None, Result, option_and_then}
+use Rattle.std.specs.Prelude.{ℕ, List, replicate, filter_map, Option, Some, None, Result, option_and_then}
 use Rattle.acpi_base.specs.Words.{has_bit}
 use Rattle.acpi_iommu.specs.Words.{block_fields, blocks_of, fields_of, structures_of}
 use Rattle.acpi_iommu.specs.declared.dmar.fields.DmarFields.{DmarFields}
@@ -39,7 +39,8 @@ root_ports_shown e = option_and_then ports_in (fields_of e)
 
 -- the unit and the domain of an RHSA (section 8.6)
 abbrev pub affinity_in : DmarFields → Option DmarAffinity
-affinity_in (dmar.Rhsa r) = Some (record { register_base = r.register_base; domain = r.domain })
+affinity_in (dmar.Rhsa r) =
+    Some (record { register_base = r.register_base; domain = r.domain; reserved = replicate 4 0 })
 affinity_in _ = None
 
 abbrev pub dmar_affinity_shown : List ℕ → Option DmarAffinity

@@ -1,5 +1,5 @@
 -- Domains and distances as C gets them. What an entry of a SRAT contains changes no result that isn't about it.
-use Rattle.std.specs.Prelude.{◌≡◌, ◌+◌, ◌≤◌, ◌↔◌, ℕ, List, find, Option, Some, None, Result, Ok, Err, if◌then◌else◌, ok_or, option_and_then}
+use Rattle.std.specs.Prelude.{◌≡◌, ◌+◌, ◌≤◌, ◌↔◌, ℕ, List, find, replicate, Option, Some, None, Result, Ok, Err, if◌then◌else◌, ok_or, option_and_then}
 use Rattle.acpi_numa.specs.Words.{cut_of, lies_in, range_in}
 use Rattle.acpi_c_devices.specs.Types.{◌>>=◌, Kind, is_left, sdt_kind, SLIT, ends_below, entry_of, ranges_of, revision_of, srat_kind, IsSane, distance_of, localities_of, domain_of_apic, domain_of_processor, MemoryRange, Localities, InvalidMemoryRange, InvalidSratEntryLength, NoDistance, NoDomain, EntryFault, Refusal, Source}
 use Rattle.acpi_c_lib.specs.Answers.{result_map}
@@ -65,6 +65,7 @@ distance_below s from to = do
 abbrev pub IsLocalities : List ℕ → Localities → Type 0
 IsLocalities table r =
     (r.localities ≡ localities_of table) × (r.is_sane ≤ 1) × (r.is_sane ≡ 1 ↔ IsSane table)
+    × (r.reserved ≡ replicate 7 0)
 
 -- the bytes of the first valid SLIT
 abbrev pub slit_in : Source → Result (List ℕ) Refusal

@@ -1,5 +1,5 @@
 -- PCI configuration space as C gets it (MCFG; PCI Firmware Specification, section 4.1.2).
-use Rattle.std.specs.Prelude.{ℕ, List, length, map, Result, ok_or, unwrap_or}
+use Rattle.std.specs.Prelude.{ℕ, List, length, map, replicate, Result, ok_or, unwrap_or}
 use Rattle.acpi_base.specs.FromStd.{is_some}
 use Rattle.acpi_base.specs.Words.{ecam_range, mcfg_entries_of, ◌>>=◌}
 use Rattle.acpi.specs.Types.{McfgEntry}
@@ -14,6 +14,7 @@ pci_record e = record {
   segment_group = e.pci_segment_group;
   first_bus = e.bus_number_start;
   last_bus = e.bus_number_end;
+  reserved = replicate 4 0;
 }
 
 abbrev pub pci_regions_below : Source → Result (List PciRegion) Refusal
@@ -29,6 +30,7 @@ ecam_record e =
       length = range.length;
       segment_group = e.pci_segment_group;
       present = flag (is_some (ecam_range e));
+      reserved = replicate 5 0;
     }
 
 -- the memory of each region of the first valid MCFG, in order

@@ -67,14 +67,23 @@ step_record (Some s) = record {
   value = s.value;
   width = s.width;
   kind = kind_code s.kind;
+  reserved = replicate 6 0;
 }
-step_record None = record { at = optional_register (Ok None); mask = 0; value = 0; width = 0; kind = 0 }
+step_record None = record {
+  at = optional_register (Ok None);
+  mask = 0;
+  value = 0;
+  width = 0;
+  kind = 0;
+  reserved = replicate 6 0;
+}
 
 -- eight steps, of which those after the last are zeros
 abbrev pub plan_record : Plan → records.Plan
 plan_record p = record {
   steps = step_record p.first ∷ step_record p.second ∷ replicate 6 (step_record None);
   count = flag (is_some p.first) + flag (is_some p.second);
+  reserved = replicate 4 0;
 }
 
 abbrev pub plan_said : Result Plan PlanError → Result records.Plan Refusal

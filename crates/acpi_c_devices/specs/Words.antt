@@ -28,6 +28,7 @@ pub use Rattle.acpi_c_devices.specs.Devices.{
   hpet_shown,
   hpets_below,
   hpets_in,
+  no_register,
   optional_register,
   register_if,
   required_register,
@@ -40,6 +41,7 @@ pub use Rattle.acpi_c_devices.specs.Fixed.{
   gpe_record,
   hypervisor_id_in,
   minor_revision_in,
+  no_gpe,
   revision_in,
 }
 pub use Rattle.acpi_c_devices.specs.Iommu.{

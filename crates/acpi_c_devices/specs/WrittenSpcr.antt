@@ -41,7 +41,7 @@ baud_rate c = if c.has_baud_rate == 0 then 0 else c.baud_rate
 -- with this NamespaceString
 abbrev pub contents : Bor (List ℕ) → spcr_record.SpcrContents → SpcrContents
 contents name c = record {
-  interface_type = interface_of c.console.interface;
+  interface_type = interface_of c.console.interface_type;
   base_address = base c.console.base;
   interrupt_type = record { 0 = interrupt_type c };
   irq = c.console.irq;

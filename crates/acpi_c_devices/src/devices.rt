@@ -2,7 +2,7 @@
 ghost use Rattle.std.specs.Prelude.{◌≡◌, ◌≤◌, length};
 ghost use Rattle.acpi.specs.Words.{accept_of, memory_of};
 ghost use Rattle.acpi_c_lib.specs.Words.{Fills, lists_some};
-ghost use Rattle.acpi_c_devices.specs.Words.{generic_record, graphic_below, graphic_record, optional_register, register_if, required_register, timer_below, timer_record, hpet_below, hpet_in, hpet_shown, hpets_below, hpets_in, pointers_left};
+ghost use Rattle.acpi_c_devices.specs.Words.{generic_record, graphic_below, graphic_record, no_register, optional_register, register_if, required_register, timer_below, timer_record, hpet_below, hpet_in, hpet_shown, hpets_below, hpets_in, pointers_left};
 
 mod shown;
 
@@ -98,8 +98,14 @@ fn timer_record(timer: Option<PmTimer>) -> records::PmTimer
             base: generic_record(&timer.base),
             present: 1,
             is_32_bit: timer.supports_32bit as u8,
+            reserved: [0; 6],
         },
-        None => records::PmTimer::default(),
+        None => records::PmTimer {
+            base: no_register(),
+            present: 0,
+            is_32_bit: 0,
+            reserved: [0; 6],
+        },
     }
 }
 
@@ -110,10 +116,28 @@ pub(crate) fn optional_register(register: AcpiResult<Option<GenericAddress>>) ->
 {
     let (at, present) = match register {
         Ok(Some(at)) => (generic_record(&at), 1),
-        Ok(None) => (records::GenericAddress::default(), 0),
-        Err(_) => (records::GenericAddress::default(), 2),
+        Ok(None) => (no_register(), 0),
+        Err(_) => (no_register(), 2),
     };
-    Register { at, present }
+    Register {
+        at,
+        present,
+        reserved: [0; 7],
+    }
+}
+
+/// The address of a register that there isn't: zeros.
+fn no_register() -> records::GenericAddress
+    ensures { result ≡ no_register }
+{
+    records::GenericAddress {
+        address: 0,
+        space: 0,
+        bit_width: 0,
+        bit_offset: 0,
+        access_size: 0,
+        reserved: [0; 4],
+    }
 }
 
 /// A register, or that its address is an error.
@@ -154,5 +178,6 @@ fn graphic_record(bgrt: &Bgrt) -> BootGraphic
             ImageType::Bitmap => 0,
             ImageType::Reserved => 1,
         },
+        reserved: [0; 4],
     }
 }

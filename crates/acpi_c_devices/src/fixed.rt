@@ -2,7 +2,7 @@
 ghost use Rattle.std.specs.Prelude.{◌≡◌, ◌≤◌, length};
 ghost use Rattle.acpi_base.specs.Words.{bytes_of};
 ghost use Rattle.acpi_fixed.specs.Words.{fadt_at};
-ghost use Rattle.acpi_c_devices.specs.Words.{fixed_below, fixed_record, gpe_record, hypervisor_id_in, minor_revision_in, revision_in};
+ghost use Rattle.acpi_c_devices.specs.Words.{fixed_below, fixed_record, gpe_record, hypervisor_id_in, minor_revision_in, no_gpe, revision_in};
 
 pub mod records;
 
@@ -72,6 +72,7 @@ fn fixed_record(fadt: &FadtView<'_, Mapped<'_>>) -> FixedHardware
         reset_value: fadt.reset_value(),
         revision: u8_in(table, 8), // Revision: FADT Major Version
         minor_revision: field(table, 131, 1) as u8, // FADT Minor Version
+        reserved: [0; 3],
         hypervisor_id: hypervisor_id_in(table),
     }
 }
@@ -98,11 +99,22 @@ fn gpe_record(outcome: AcpiResult<Option<GpeBlock>>) -> records::GpeBlock
             space: block.space.code(),
             byte_length: block.byte_length,
             present: 1,
+            reserved: [0; 5],
         },
-        Ok(None) => records::GpeBlock::default(),
-        Err(_) => records::GpeBlock {
-            present: 2,
-            ..records::GpeBlock::default()
-        },
+        Ok(None) => no_gpe(0),
+        Err(_) => no_gpe(2),
+    }
+}
+
+/// No block of general purpose events: 0 if there is none, or 2 if its address is an error.
+fn no_gpe(present: u8) -> records::GpeBlock
+    ensures { result ≡ no_gpe present }
+{
+    records::GpeBlock {
+        address: 0,
+        space: 0,
+        byte_length: 0,
+        present,
+        reserved: [0; 5],
     }
 }

@@ -82,6 +82,7 @@ fn dmar_flags_record(dmar: &Dmar) -> DmarFlags
     DmarFlags {
         address_bits: dmar.address_bits(),
         flags: dmar.flags,
+        reserved: 0,
     }
 }
 

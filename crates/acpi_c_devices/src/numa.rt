@@ -99,5 +99,6 @@ pub fn localities(source: &Source<'_>) -> Result<Localities, Refusal>
     Ok(Localities {
         localities: distances.localities(),
         is_sane: distances.is_sane() as u8,
+        reserved: [0; 7],
     })
 }

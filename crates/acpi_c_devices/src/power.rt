@@ -143,6 +143,7 @@ fn plan_record(plan: acpi_sleep::Plan) -> Plan
             none,
         ],
         count: plan.first.is_some() as u32 + plan.second.is_some() as u32,
+        reserved: [0; 4],
     }
 }
 
@@ -157,6 +158,7 @@ fn step_record(step: Option<PlanStep>) -> Step
             value: step.value,
             width: step.width,
             kind: kind_code(step.kind),
+            reserved: [0; 6],
         },
         None => Step {
             at: optional_register(Ok(None)),
@@ -164,6 +166,7 @@ fn step_record(step: Option<PlanStep>) -> Step
             value: 0,
             width: 0,
             kind: 0,
+            reserved: [0; 6],
         },
     }
 }

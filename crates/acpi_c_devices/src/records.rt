@@ -3,13 +3,14 @@
 
 /// `struct zacpi_generic_address`.
 #[repr(C)]
-#[derive(Clone, Copy, Default)]
+#[derive(Clone, Copy)]
 pub struct GenericAddress {
     pub address: u64,
     pub space: u8,
     pub bit_width: u8,
     pub bit_offset: u8,
     pub access_size: u8,
+    pub reserved: [u8; 4],
 }
 
 /// `struct zacpi_register`.
@@ -18,15 +19,17 @@ pub struct GenericAddress {
 pub struct Register {
     pub at: GenericAddress,
     pub present: u8,
+    pub reserved: [u8; 7],
 }
 
 /// `struct zacpi_pm_timer`.
 #[repr(C)]
-#[derive(Clone, Copy, Default)]
+#[derive(Clone, Copy)]
 pub struct PmTimer {
     pub base: GenericAddress,
     pub present: u8,
     pub is_32_bit: u8,
+    pub reserved: [u8; 6],
 }
 
 /// `struct zacpi_hpet_info`.
@@ -50,6 +53,7 @@ pub struct BootGraphic {
     pub orientation: u16,
     pub displayed: u8,
     pub image_type: u8,
+    pub reserved: [u8; 4],
 }
 
 /// `struct zacpi_pci_region`.
@@ -60,4 +64,5 @@ pub struct PciRegion {
     pub segment_group: u16,
     pub first_bus: u8,
     pub last_bus: u8,
+    pub reserved: [u8; 4],
 }

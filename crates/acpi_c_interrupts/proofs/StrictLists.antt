@@ -1,6 +1,6 @@
 -- Of a MADT none of whose entries is at fault, the lists are as in the strict model.
 use Rattle.std.proofs.Common.{◌≡◌, ℕ, List, [], ◌∷◌, map, Bool, true, false, Option, Some, None, Result, Ok, Err, refl, ap, sym, ◌∙◌, filter_map, option_map}
-use Rattle.std.specs.Prelude.{◌==◌, option_and_then, if◌then◌else◌}
+use Rattle.std.specs.Prelude.{◌==◌, option_and_then, replicate, if◌then◌else◌}
 use Rattle.acpi_base.proofs.FromStd.{eqb-true}
 use Rattle.acpi_base.specs.Interrupts.{nmi_line_of, nmi_source_of, override_of, polarity_of}
 use Rattle.acpi_base.specs.Model as base
@@ -144,7 +144,12 @@ overrides _ h = refl
 -- ---- NMI sources
 
 abbrev sourcing : NmiSourceEntry → ℕ → ℕ → records.NmiSource
-sourcing e p t = record { global_system_interrupt = e.global_system_interrupt; polarity = p; trigger = t }
+sourcing e p t = record {
+  global_system_interrupt = e.global_system_interrupt;
+  polarity = p;
+  trigger = t;
+  reserved = replicate 2 0;
+}
 
 same_source : (e : NmiSourceEntry) (p q t u : ℕ) → p ≡ q → t ≡ u → sourcing e p t ≡ sourcing e q u
 same_source e p q t u polarity trigger = rw (polarity, trigger) refl

@@ -1,6 +1,6 @@
 -- The law: of a MADT none of whose entries is at fault, the lists are as in the strict model, beside which C's
 -- records have the bus of an override, the wiring of a LINT pin, and what kind of processor it is.
-use Rattle.std.specs.Prelude.{◌≡◌, ℕ, List, map, not, None, filter_map}
+use Rattle.std.specs.Prelude.{◌≡◌, ℕ, List, map, not, replicate, None, filter_map}
 use Rattle.acpi_base.specs.Words.{entries_of, fault_of, line_code, polarity_code, trigger_code, uid_code}
 use Rattle.acpi_base.specs.Model as base
 use Rattle.acpi.specs.Types.{All, Disabled, InterruptSourceOverride, NmiLine, NmiProcessor, NmiSource, Processor, ProcessorState, ProcessorUid, Running, WaitingForSipi}
@@ -23,6 +23,7 @@ nmi_source_record x = record {
   global_system_interrupt = x.global_system_interrupt;
   polarity = polarity_code x.polarity;
   trigger = trigger_code x.trigger_mode;
+  reserved = replicate 2 0;
 }
 
 abbrev pub of_all : NmiProcessor → ℕ

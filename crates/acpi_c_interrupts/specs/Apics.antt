@@ -1,6 +1,6 @@
 -- The entries of a MADT that describes APICs, each by itself (ACPI 6.4, section 5.2.12): what another entry contains,
 -- or why the strict model fails for it, changes nothing.
-use Rattle.std.specs.Prelude.{ℕ, ◌==◌, Bool, true, false, List, [], ◌∷◌, Option, Some, None, Result, Ok, if◌then◌else◌, filter_map}
+use Rattle.std.specs.Prelude.{ℕ, ◌==◌, Bool, true, false, List, [], ◌∷◌, replicate, Option, Some, None, Result, Ok, if◌then◌else◌, filter_map}
 use Rattle.acpi_base.specs.FromStd.{list_any}
 use Rattle.acpi_base.specs.Words.{all_apics, all_x2apics, bits_of, field_of, has_bit, entries_of, mailbox_of, online_capable, ◌>>=◌, holds}
 pub use Rattle.acpi.specs.Types.{MadtEntry}
@@ -90,6 +90,7 @@ io_apic_in (entry.IoApic e) = Some (record {
   address = e.io_apic_address;
   global_system_interrupt_base = e.global_system_interrupt_base;
   id = e.io_apic_id;
+  reserved = replicate 3 0;
 })
 io_apic_in _ = None
 
@@ -112,6 +113,7 @@ nmi_source_in (entry.NmiSource e) = Some (record {
   global_system_interrupt = e.global_system_interrupt;
   polarity = bits_of e.flags 0 2;
   trigger = bits_of e.flags 2 2;
+  reserved = replicate 2 0;
 })
 nmi_source_in _ = None
 

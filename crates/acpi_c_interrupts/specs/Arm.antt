@@ -1,6 +1,6 @@
 -- The generic interrupt controller (GIC) of an Arm machine as C gets it: what the entries of a MADT contain of it, each
 -- by itself.
-use Rattle.std.specs.Prelude.{ℕ, Bool, false, true, List, map, slice_get, Option, Result, Ok, if◌then◌else◌, filter_map, ok_or, unwrap_or}
+use Rattle.std.specs.Prelude.{ℕ, Bool, false, true, List, map, replicate, slice_get, Option, Result, Ok, if◌then◌else◌, filter_map, ok_or, unwrap_or}
 use Rattle.acpi_base.specs.Words.{holds}
 use Rattle.acpi_base.specs.declared.tables.madt.entry.MadtEntry.TheVariants as kinds
 use Rattle.acpi_c_interrupts.specs.Types.{is_some, list_any, cut_of, entries_of, is_left, trigger_code, ◌>>=◌, InvalidEntryLength, InvalidMadt, MadtEntry, madt_kind, cpu_interface_in, distributor_in, items_of, msi_frame_in, redistributors_in, translation_service_in, GicCpuInterface, GicDistributor, GicMsiFrame, GicRedistributors, GicTranslationService, SpiRange, Acpi, Range, NoGic, Refusal, Source}
@@ -36,8 +36,13 @@ below_gic s show = result_map show (gic_table s)
 -- ---- the distributor (section 5.2.12.15)
 
 abbrev pub distributor_record : GicDistributor → records.GicDistributor
-distributor_record d =
-    record { address = d.address; id = d.id; system_vector_base = d.system_vector_base; version = d.version }
+distributor_record d = record {
+  address = d.address;
+  id = d.id;
+  system_vector_base = d.system_vector_base;
+  version = d.version;
+  reserved = replicate 7 0;
+}
 
 -- why a table has no distributor: none of its entries is one, or the malformed front might be
 abbrev pub no_distributor : List ℕ → Refusal
@@ -72,6 +77,7 @@ cpu_interface_record x = record {
   performance_trigger = trigger_code x.performance_trigger;
   maintenance_trigger = trigger_code x.maintenance_trigger;
   efficiency_class = x.efficiency_class;
+  reserved = replicate 3 0;
 }
 
 abbrev pub cpu_interfaces_shown : List ℕ → List records.GicCpuInterface
@@ -88,7 +94,7 @@ redistributors_shown table = map redistributors_record (items_of redistributors_
 -- ---- services that translate interrupts (section 5.2.12.18)
 
 abbrev pub translation_service_record : GicTranslationService → records.GicTranslationService
-translation_service_record t = record { address = t.address; id = t.id }
+translation_service_record t = record { address = t.address; id = t.id; reserved = replicate 4 0 }
 
 abbrev pub translation_services_shown : List ℕ → List records.GicTranslationService
 translation_services_shown table = map translation_service_record (items_of translation_service_in table)
@@ -106,6 +112,7 @@ msi_frame_record f = record {
   spi_base = (spis_or f.spis).base;
   spi_count = (spis_or f.spis).count;
   has_spis = flag (is_some f.spis);
+  reserved = replicate 7 0;
 }
 
 abbrev pub msi_frames_shown : List ℕ → List records.GicMsiFrame

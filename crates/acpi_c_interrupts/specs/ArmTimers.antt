@@ -1,5 +1,5 @@
 -- The generic timers of an Arm machine (GTDT, section 5.2.24) as C gets them.
-use Rattle.std.specs.Prelude.{ℕ, ◌-◌, ◌^◌, nat_lt, Bool, List, [], ◌∷◌, ◌++◌, map, Option, Some, None, Result, filter_map, unwrap_or}
+use Rattle.std.specs.Prelude.{ℕ, ◌-◌, ◌^◌, nat_lt, Bool, List, [], ◌∷◌, ◌++◌, map, replicate, Option, Some, None, Result, filter_map, unwrap_or}
 use Rattle.std.proofs.Common.{inl, inr}
 use Rattle.acpi_arm.specs.Gtdt.{virtual_el2_of}
 pub use Rattle.acpi_arm.specs.declared.frames.GtFrame.{GtFrame}
@@ -42,6 +42,7 @@ timers_record t is_malformed = record {
   el2 = arm_timer_record t.el2_timer;
   virtual_el2 = arm_timer_or (virtual_el2_of t);
   platform_timers_malformed = flag is_malformed;
+  reserved = replicate 7 0;
 }
 
 abbrev pub timers_shown : List ℕ → ArmTimers
@@ -64,6 +65,7 @@ frame_record block f = record {
   virtual_trigger = trigger_code f.virtual_timer.trigger_mode;
   is_secure = flag f.is_secure;
   is_always_on = flag f.is_always_on;
+  reserved = 0;
 }
 
 -- the frames of a timer, if it is a block
@@ -89,6 +91,7 @@ watchdog_record w = record {
   polarity = polarity_code w.polarity;
   trigger = trigger_code w.trigger_mode;
   is_secure = flag w.is_secure;
+  reserved = 0;
 }
 
 -- a timer, if it is a watchdog

@@ -1,5 +1,5 @@
 -- The 16 ISA interrupts at once, each as the calls for one return it.
-use Rattle.std.specs.Prelude.{◌≡◌, ℕ, ◌-◌, ◌<◌, ◌&&◌, nat_le, List, map, slice_index_or, Option, Some, Result, Ok, Err, if◌then◌else◌, option_map}
+use Rattle.std.specs.Prelude.{◌≡◌, ℕ, ◌-◌, ◌<◌, ◌&&◌, nat_le, List, map, replicate, slice_index_or, Option, Some, Result, Ok, Err, if◌then◌else◌, option_map}
 use Rattle.acpi_base.specs.FromStd.{range_with_len}
 use Rattle.acpi_base.specs.Words.{base_of}
 use Rattle.acpi.specs.Types.{IoApic}
@@ -11,21 +11,21 @@ pub use Rattle.acpi_c_interrupts.specs.declared.apics.records.IsaRoute.{IsaRoute
 use Rattle.acpi_c_interrupts.specs.Types.{Refusal, Source}
 
 abbrev pub no_interrupt : Interrupt
-no_interrupt = record { global_system_interrupt = 0; polarity = 0; trigger = 0 }
+no_interrupt = record { global_system_interrupt = 0; polarity = 0; trigger = 0; reserved = replicate 2 0 }
 
 abbrev pub no_pin : IoApicPin
 no_pin = record {
-  io_apic = record { address = 0; global_system_interrupt_base = 0; id = 0 };
+  io_apic = record { address = 0; global_system_interrupt_base = 0; id = 0; reserved = replicate 3 0 };
   pin = 0;
 }
 
 abbrev pub no_route : IsaRoute
-no_route = record { interrupt = no_interrupt; pin = no_pin; present = 0; has_pin = 0 }
+no_route = record { interrupt = no_interrupt; pin = no_pin; present = 0; has_pin = 0; reserved = replicate 2 0 }
 
 -- an interrupt, and the result for its pin
 abbrev pub routed : Interrupt → Result IoApicPin Refusal → IsaRoute
-routed i (Ok pin) = record { interrupt = i; pin = pin; present = 1; has_pin = 1 }
-routed i (Err e) = record { interrupt = i; pin = no_pin; present = 1; has_pin = 0 }
+routed i (Ok pin) = record { interrupt = i; pin = pin; present = 1; has_pin = 1; reserved = replicate 2 0 }
+routed i (Err e) = record { interrupt = i; pin = no_pin; present = 1; has_pin = 0; reserved = replicate 2 0 }
 
 -- the result for an interrupt, and then for its pin
 abbrev pub route_by : (ℕ → Result IoApicPin Refusal) → Result Interrupt Refusal → IsaRoute

@@ -1,5 +1,5 @@
 -- The local APICs' address and the 8259s (MADT, section 5.2.12) as C gets them.
-use Rattle.std.specs.Prelude.{Result}
+use Rattle.std.specs.Prelude.{replicate, Result}
 use Rattle.acpi.specs.Words.{madt_kind}
 use Rattle.acpi_c_lib.specs.Answers.{flag}
 use Rattle.acpi_c_lib.specs.Below.{below_first}
@@ -13,6 +13,7 @@ abbrev pub local_apic_record : Apics → LocalApic
 local_apic_record apics = record {
   address = apics.local_apic_address;
   also_has_8259 = flag apics.also_has_legacy_pics;
+  reserved = replicate 7 0;
 }
 
 -- both of the first valid MADT, by its entries up to where none begins, whether or not the interrupt model takes them

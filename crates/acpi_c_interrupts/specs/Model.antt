@@ -1,5 +1,5 @@
 -- The interrupt model (MADT, section 5.2.12) as C gets it.
-use Rattle.std.specs.Prelude.{◌≡◌, ℕ, List, [], ◌∷◌, length, Option, Some, None, Result, Ok, Err}
+use Rattle.std.specs.Prelude.{◌≡◌, ℕ, List, [], ◌∷◌, length, replicate, Option, Some, None, Result, Ok, Err}
 use Rattle.acpi_base.specs.Words.{madt_at, Memory, ◌>>=◌, accepted}
 use Rattle.acpi_base.specs.Model as base
 use Rattle.acpi.specs.Types.{Apic, IoApic, Processor, ProcessorInfo}
@@ -56,6 +56,7 @@ io_apic_record x = record {
   address = x.address;
   global_system_interrupt_base = x.global_system_interrupt_base;
   id = x.id;
+  reserved = replicate 3 0;
 }
 
 -- ---- processors
@@ -77,6 +78,7 @@ counts_of (model.Apic apic, processors) = record {
   processors = length (listed processors);
   known = 1;
   also_has_8259 = flag apic.also_has_legacy_pics;
+  reserved = replicate 6 0;
 }
 counts_of (model.Unknown, processors) = record {
   local_apic_address = 0;
@@ -87,6 +89,7 @@ counts_of (model.Unknown, processors) = record {
   processors = length (listed processors);
   known = 0;
   also_has_8259 = 0;
+  reserved = replicate 6 0;
 }
 
 -- how many items each list has is written as the model has it; of an error it stays

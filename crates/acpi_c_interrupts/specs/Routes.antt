@@ -1,5 +1,5 @@
 -- How interrupts come to the I/O APICs, as C gets it.
-use Rattle.std.specs.Prelude.{◌≡◌, ℕ, ◌<◌, ◌==◌, Bool, true, nat_lt, List, filter, Option, Some, None, option_and_then, Result, Ok, Err, if◌then◌else◌, filter_map, ok_or, option_map, slice_index_or}
+use Rattle.std.specs.Prelude.{◌≡◌, ℕ, ◌<◌, ◌==◌, Bool, true, nat_lt, List, filter, replicate, Option, Some, None, option_and_then, Result, Ok, Err, if◌then◌else◌, filter_map, ok_or, option_map, slice_index_or}
 use Rattle.acpi_base.specs.FromStd.{last_or}
 use Rattle.acpi_base.specs.Words.{io_apic_of, isa_interrupt, polarity_code, polarity_for, sci_interrupt, trigger_code, trigger_for, Gathered, IsGathered, Memory, base_of, io_apic_for, ◌>>=◌}
 use Rattle.acpi_bytes.specs.declared.error.AcpiError.TheVariants.{InvalidMadt}
@@ -44,6 +44,7 @@ interrupt_record i = record {
   global_system_interrupt = i.global_system_interrupt;
   polarity = polarity_code i.polarity;
   trigger = trigger_code i.trigger_mode;
+  reserved = replicate 2 0;
 }
 
 -- an override, if it is of the ISA bus

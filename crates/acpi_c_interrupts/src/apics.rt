@@ -226,6 +226,7 @@ impl MadtRecord for IoApic {
                 address: e.io_apic_address,
                 global_system_interrupt_base: e.global_system_interrupt_base,
                 id: e.io_apic_id,
+                reserved: [0; 3],
             }),
             _ => None,
         }
@@ -258,6 +259,7 @@ impl MadtRecord for NmiSource {
                 global_system_interrupt: e.global_system_interrupt,
                 polarity: bits(e.flags as u64, 0, 2) as u8,
                 trigger: bits(e.flags as u64, 2, 2) as u8,
+                reserved: [0; 2],
             }),
             _ => None,
         }

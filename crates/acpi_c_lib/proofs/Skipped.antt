@@ -4,7 +4,7 @@ use Rattle.acpi_base.specs.FromStd.{cons_option, is_ok}
 use Rattle.acpi_base.specs.Words.{Kind, Memory, accepted, table_at}
 use Rattle.acpi_base.proofs.FromStd.{All-head, All-tail}
 use Rattle.acpi.specs.Types.{AcpiError}
-use Rattle.acpi.specs.Words.{or_later, rsdp_at}
+use Rattle.acpi.specs.Words.{accepted_rsdp_at, or_later}
 use Rattle.acpi_c_lib.specs.Faults.{accepted_fault, fault_before, with_fault}
 use Rattle.acpi_c_lib.specs.Types.{Fault}
 use Rattle.acpi_c_lib.specs.Words.{FaultsAreTheirs, IsNoRsdp, IsSkipped, RangesAreTheirs, RsdpEndsRanges, TakenEndsFaults, candidate_missing_range, candidates_from, faults_among, skipped, skipped_by, walk_missing_ranges}
@@ -60,21 +60,21 @@ found_none (Err e) later is = cc
 
 pub ranges_are_theirs : RangesAreTheirs
 unfolding walk_missing_ranges
-ranges_are_theirs m zero a all = refl
-ranges_are_theirs m (suc n) a all =
-    later_is (λ b. []) (rsdp_at m a) _ (All-head (IsNoRsdp m) a (candidates_from n (a + 16)) all)
-    ∙ ap (cons_option (candidate_missing_range m a)) (ranges_are_theirs m n (a + 16)
-    (All-tail (IsNoRsdp m) a (candidates_from n (a + 16)) all))
+ranges_are_theirs accept m zero a all = refl
+ranges_are_theirs accept m (suc n) a all =
+    later_is (λ b. []) (accepted_rsdp_at accept m a) _ (All-head (IsNoRsdp accept m) a (candidates_from n (a + 16)) all)
+    ∙ ap (cons_option (candidate_missing_range accept m a)) (ranges_are_theirs accept m n (a + 16)
+    (All-tail (IsNoRsdp accept m) a (candidates_from n (a + 16)) all))
 
 pub rsdp_ends_ranges : RsdpEndsRanges
 unfolding walk_missing_ranges
-rsdp_ends_ranges m n zero a inside all is = absurd (omega (arith, inside))
-rsdp_ends_ranges m zero (suc more) a inside all is =
+rsdp_ends_ranges accept m n zero a inside all is = absurd (omega (arith, inside))
+rsdp_ends_ranges accept m zero (suc more) a inside all is =
     let here : a + 16 * 0 ≡ a = omega arith in
-    found_none (rsdp_at m a) _ (subst (λ b. is_ok (rsdp_at m b) ≡ true) here is)
-rsdp_ends_ranges m (suc n) (suc more) a inside all is =
+    found_none (accepted_rsdp_at accept m a) _ (subst (λ b. is_ok (accepted_rsdp_at accept m b) ≡ true) here is)
+rsdp_ends_ranges accept m (suc n) (suc more) a inside all is =
     let there : a + 16 * suc n ≡ a + 16 + 16 * n = omega arith in
-    later_is (λ b. []) (rsdp_at m a) _ (All-head (IsNoRsdp m) a (candidates_from n (a + 16)) all)
-    ∙ ap (cons_option (candidate_missing_range m a)) (rsdp_ends_ranges m n more (a + 16) (omega (arith, inside))
-    (All-tail (IsNoRsdp m) a (candidates_from n (a + 16)) all)
-    (subst (λ b. is_ok (rsdp_at m b) ≡ true) there is))
+    later_is (λ b. []) (accepted_rsdp_at accept m a) _ (All-head (IsNoRsdp accept m) a (candidates_from n (a + 16)) all)
+    ∙ ap (cons_option (candidate_missing_range accept m a)) (rsdp_ends_ranges accept m n more (a + 16) (omega (arith, inside))
+    (All-tail (IsNoRsdp accept m) a (candidates_from n (a + 16)) all)
+    (subst (λ b. is_ok (accepted_rsdp_at accept m b) ≡ true) there is))

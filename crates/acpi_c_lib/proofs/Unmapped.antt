@@ -3,7 +3,7 @@ use Rattle.std.proofs.Common.{◌≡◌, ℕ, ◌≤◌, List, [], ◌∷◌, �
 use Rattle.acpi_base.specs.FromStd.{last_or, cons_option, is_some, is_ok, result_ok}
 use Rattle.acpi_base.specs.Words.{accepted, field_of, has_bit, left_of, loosened, own_accepted, own_kind, check_names, check_table, header_at, Memory, at, ◌>>=◌, holds, lent, table_at, plain_kind, letters_of}
 use Rattle.acpi.specs.Types.{MapFailed, NoValidRsdp, SdtHeader, Signature, AddressRange}
-use Rattle.acpi.specs.Words.{accepted_root_at, bios_areas, found_among, found_in_areas, count_in, ebda_area, end_of, first_in, Opened, area_ranges, or_else_ranges, search_ranges, length_ranges, rsdp_ranges, root_of_revision, signature_of, check_first, check_sum, extended_length_of, checked_length, root_of_rsdp, rsdp_at, rsdp_of, first_area, found_in, found_rsdp, or_else, room_of, second_area, word_in, area, count_of, walk, or_later}
+use Rattle.acpi.specs.Words.{accepted_root_at, bios_areas, accepted_found_rsdp, accepted_in_areas, accepted_length, accepted_root, accepted_rsdp_at, accepted_rsdp_ranges, accepted_search_ranges, found_among, count_in, ebda_area, end_of, first_in, Opened, area_ranges, or_else_ranges, length_ranges, root_of_revision, signature_of, check_first, check_sum, extended_length_of, rsdp_of, first_area, found_in, or_else, room_of, second_area, word_in, area, count_of, walk, or_later}
 use Rattle.acpi.specs.Areas.{range}
 use Rattle.acpi_c_lib.specs.Words.{member_missing_range, table_missing_range, AcpiError, Refusal, Source, check_policy, ebda_in, opened_in, refused_as, root_pointer_in, rsdp_in, Acpi, UnknownStart, Areas, IsUnmapped, OpeningLacksRange, areas_missing_ranges, candidate_missing_range, candidate_missing_ranges, has_valid, missing_range, last_range, missing_below, missing_in, range_of, root_missing_range, rsdp_missing_range, walk_missing_ranges, Fills, Writes, items_said, put_from, result_map, memory_in}
 use Rattle.acpi_c_lib.specs.Missing.{Range, no_areas, pieces, stretches}
@@ -26,17 +26,17 @@ pub sum_not : (b : List ℕ) → check_sum b ≡ Err MapFailed → ⊥
 unfolding check_sum
 sum_not b e = grind arith
 
-pub rsdp_not : (b : List ℕ) → checked_length b ≡ Err MapFailed → ⊥
-unfolding checked_length check_first
-rsdp_not b e = grind (arith, sum_not)
+pub rsdp_not : (accept : ℕ) (b : List ℕ) → accepted_length accept b ≡ Err MapFailed → ⊥
+unfolding accepted_length check_first
+rsdp_not accept b e = grind (arith, sum_not)
 
-pub rsdp_length : (b : List ℕ) (o : Option ℕ) → checked_length b ≡ Ok o → extended_length_of (rsdp_of b) ≡ o
-unfolding checked_length
-rsdp_length b o e = grind arith
+pub rsdp_length : (accept : ℕ) (b : List ℕ) (n : ℕ) → accepted_length accept b ≡ Ok (Some n) → extended_length_of (rsdp_of b) ≡ Some n
+unfolding accepted_length
+rsdp_length accept b n e = grind arith
 
-pub rsdp_long : (b : List ℕ) (n : ℕ) → checked_length b ≡ Ok (Some n) → 36 ≤ n
-unfolding checked_length
-rsdp_long b n e = grind arith
+pub rsdp_long : (accept : ℕ) (b : List ℕ) (n : ℕ) → accepted_length accept b ≡ Ok (Some n) → 36 ≤ n
+unfolding accepted_length
+rsdp_long accept b n e = grind arith
 
 pub ruleset rsdp_refusals = (rsdp_not, rsdp_length, rsdp_long, sum_not)
 
@@ -98,43 +98,43 @@ abbrev pub refused_at : Bool → Result (List ℕ) AcpiError → ℕ × ℕ
 refused_at ok r = refused_by ok (first_area.start, room_of first_area)
     (λ w. ((second_area w).start, room_of (second_area w))) r
 
-search_by : (m : Memory) (ok : Bool) (s : _) (t : ℕ → _) (r : Result (List ℕ) AcpiError)
+search_by : (accept : ℕ) (m : Memory) (ok : Bool) (s : _) (t : ℕ → _) (r : Result (List ℕ) AcpiError)
     → is_ok (lent m s.start (room_of s)) ≡ ok → lent m 0x40e 2 ≡ r
-    → ((r >>= λ b. Ok (field_of b 0 2)) >>= λ word. found_in m s >>= λ first.
-    or_else first (found_in m (t word) >>= λ second. or_else second (Err NoValidRsdp))) ≡ Err MapFailed
+    → ((r >>= λ b. Ok (field_of b 0 2)) >>= λ word. found_in accept m s >>= λ first.
+    or_else first (found_in accept m (t word) >>= λ second. or_else second (Err NoValidRsdp))) ≡ Err MapFailed
     → let at_end = refused_by ok (s.start, room_of s) (λ w. ((t w).start, room_of (t w))) r in
     (last_or (Some (0x40e, 2)) (ranges.◌>>=◌ (r >>= λ b. Ok (field_of b 0 2))
-    (λ word. area_ranges m s ++ ranges.◌>>=◌ (found_in m s) (λ first.
-    or_else_ranges first (area_ranges m (t word))))) ≡ Some at_end)
+    (λ word. area_ranges accept m s ++ ranges.◌>>=◌ (found_in accept m s) (λ first.
+    or_else_ranges first (area_ranges accept m (t word))))) ≡ Some at_end)
     × (at m at_end.0 at_end.1 ≡ None)
 unfolding found_in
-search_by m true s t (Ok b) first is e = rw last_append (grind arith)
-search_by m false s t (Ok b) first is e = rw last_append (grind arith)
-search_by m ok s t (Err d) first is e = grind arith
+search_by accept m true s t (Ok b) first is e = rw last_append (grind arith)
+search_by accept m false s t (Ok b) first is e = rw last_append (grind arith)
+search_by accept m ok s t (Err d) first is e = grind arith
 
-search_last : (m : Memory) (ok : Bool) → is_ok (lent m first_area.start (room_of first_area)) ≡ ok
-    → found_rsdp m ≡ Err MapFailed
-    → let r = refused_at ok (lent m 0x40e 2) in (last_or None (search_ranges m) ≡ Some r) × (at m r.0 r.1 ≡ None)
-unfolding found_rsdp word_in
-search_last m ok first e = search_by m ok first_area second_area (lent m 0x40e 2) first refl e
+search_last : (accept : ℕ) (m : Memory) (ok : Bool) → is_ok (lent m first_area.start (room_of first_area)) ≡ ok
+    → accepted_found_rsdp accept m ≡ Err MapFailed
+    → let r = refused_at ok (lent m 0x40e 2) in (last_or None (accepted_search_ranges accept m) ≡ Some r) × (at m r.0 r.1 ≡ None)
+unfolding accepted_found_rsdp word_in
+search_last accept m ok first e = search_by accept m ok first_area second_area (lent m 0x40e 2) first refl e
 
-pub search_refused : (m : Memory) (ok : Bool) (o : Result (List ℕ) AcpiError) (x : _)
+pub search_refused : (accept : ℕ) (m : Memory) (ok : Bool) (o : Result (List ℕ) AcpiError) (x : _)
     → is_ok (lent m first_area.start (room_of first_area)) ≡ ok → lent m 0x40e 2 ≡ o → x ≡ range_of (refused_at ok o)
-    → found_rsdp m ≡ Err MapFailed → last_range (search_ranges m) ≡ Some x
-search_refused m ok o x first is place e =
-    ap (option_map range_of) (search_last m ok first e).0 ∙ ap (λ q. Some (range_of (refused_at ok q))) is
+    → accepted_found_rsdp accept m ≡ Err MapFailed → last_range (accepted_search_ranges accept m) ≡ Some x
+search_refused accept m ok o x first is place e =
+    ap (option_map range_of) (search_last accept m ok first e).0 ∙ ap (λ q. Some (range_of (refused_at ok q))) is
     ∙ sym (ap (λ y. Some y) place)
 
-search_unmapped : (m : Memory) → found_rsdp m ≡ Err MapFailed → IsUnmapped m (last_range (search_ranges m))
-search_unmapped m e =
-    let last = search_last m (is_ok (lent m first_area.start (room_of first_area))) refl e in
+search_unmapped : (accept : ℕ) (m : Memory) → accepted_found_rsdp accept m ≡ Err MapFailed → IsUnmapped m (last_range (accepted_search_ranges accept m))
+search_unmapped accept m e =
+    let last = search_last accept m (is_ok (lent m first_area.start (room_of first_area))) refl e in
     subst (λ o. IsUnmapped m (option_map range_of o)) (sym last.0) last.1
 
 -- ---- opening
 
-rsdp_unmapped : (m : Memory) (a : ℕ) → rsdp_at m a ≡ Err MapFailed → IsUnmapped m (last_range (rsdp_ranges m a))
-unfolding rsdp_at
-rsdp_unmapped m a e = grind (arith, sum_not, rsdp_not)
+rsdp_unmapped : (accept : ℕ) (m : Memory) (a : ℕ) → accepted_rsdp_at accept m a ≡ Err MapFailed → IsUnmapped m (last_range (accepted_rsdp_ranges accept m a))
+unfolding accepted_rsdp_at
+rsdp_unmapped accept m a e = grind (arith, sum_not, rsdp_not)
 
 -- the search in areas has one error, and it is another
 
@@ -142,9 +142,9 @@ nothing_by : (o : Option (ℕ × List ℕ)) → ok_or o NoValidRsdp ≡ Err MapF
 nothing_by (Some found) e = cc
 nothing_by None e = cc
 
-areas_not : (m : Memory) (areas : List AddressRange) → found_in_areas m areas ≡ Err MapFailed → ⊥
-unfolding found_in_areas
-areas_not m areas e = nothing_by (found_among m areas) e
+areas_not : (accept : ℕ) (m : Memory) (areas : List AddressRange) → accepted_in_areas accept m areas ≡ Err MapFailed → ⊥
+unfolding accepted_in_areas
+areas_not accept m areas e = nothing_by (found_among accept m areas) e
 
 refused_is : {A : Type 0} (r : Result A AcpiError) → refused_as r ≡ Err (Acpi MapFailed) → r ≡ Err MapFailed
 refused_is r e = grind arith
@@ -157,16 +157,16 @@ kept_error a (Ok bytes) e = cc
 kept_error a (Err d) e = cc
 
 by_rsdp : (m : Memory) (s : Source) (at_address by_search by_areas : Bool)
-    → (if at_address then refused_as (result_map (λ bytes. (s.address, bytes)) (rsdp_at m s.address))
-    else if by_search then refused_as (found_rsdp m)
-    else if by_areas then refused_as (found_in_areas m (bios_areas (ebda_in m))) else Err UnknownStart)
+    → (if at_address then refused_as (result_map (λ bytes. (s.address, bytes)) (accepted_rsdp_at s.accept m s.address))
+    else if by_search then refused_as (accepted_found_rsdp s.accept m)
+    else if by_areas then refused_as (accepted_in_areas s.accept m (bios_areas (ebda_in m))) else Err UnknownStart)
     ≡ Err (Acpi MapFailed)
-    → IsUnmapped m (if at_address then missing_range {A = ℕ} (Err MapFailed) (rsdp_ranges m s.address)
-    else if by_search then missing_range {A = ℕ} (Err MapFailed) (search_ranges m) else None)
+    → IsUnmapped m (if at_address then missing_range {A = ℕ} (Err MapFailed) (accepted_rsdp_ranges s.accept m s.address)
+    else if by_search then missing_range {A = ℕ} (Err MapFailed) (accepted_search_ranges s.accept m) else None)
 by_rsdp m s true by_search by_areas e =
-    rsdp_unmapped m s.address (kept_error s.address (rsdp_at m s.address) (refused_is _ e))
-by_rsdp m s false true by_areas e = search_unmapped m (refused_is _ e)
-by_rsdp m s false false true e = absurd (areas_not m (bios_areas (ebda_in m)) (refused_is _ e))
+    rsdp_unmapped s.accept m s.address (kept_error s.address (accepted_rsdp_at s.accept m s.address) (refused_is _ e))
+by_rsdp m s false true by_areas e = search_unmapped s.accept m (refused_is _ e)
+by_rsdp m s false false true e = absurd (areas_not s.accept m (bios_areas (ebda_in m)) (refused_is _ e))
 by_rsdp m s false false false e = absurd cc
 
 abbrev root_as : RootPointer → Result (List ℕ) AcpiError → Result Opened Refusal
@@ -190,16 +190,16 @@ there m s place e =
 
 by_pointer : (m : Memory) (s : Source) (r : Result (ℕ × List ℕ) Refusal)
     → (r ≡ Err (Acpi MapFailed) → IsUnmapped m (rsdp_missing_range m s MapFailed))
-    → opened_by m s (result_map (λ found. root_of_rsdp found.1) r) ≡ Err (Acpi MapFailed)
-    → IsUnmapped m (root_missing_range m s (result_map (λ found. root_of_rsdp found.1) r))
-by_pointer m s (Ok found) none e = there m s (root_of_rsdp found.1) e
+    → opened_by m s (result_map (accepted_root s.accept m) r) ≡ Err (Acpi MapFailed)
+    → IsUnmapped m (root_missing_range m s (result_map (accepted_root s.accept m) r))
+by_pointer m s (Ok found) none e = there m s (accepted_root s.accept m found) e
 by_pointer m s (Err d) none e =
     let is : d ≡ Acpi MapFailed = cc in
     rw is (none (ap (λ x. Err x) is))
 
 by_start : (m : Memory) (s : Source) (rsdt xsdt : Bool) → let r =
     (if rsdt then Ok (root_of_revision 0 s.address) else if xsdt then Ok (root_of_revision 2 s.address)
-    else result_map (λ found. root_of_rsdp found.1) (rsdp_in m s)) in
+    else result_map (accepted_root s.accept m) (rsdp_in m s)) in
     opened_by m s r ≡ Err (Acpi MapFailed) → IsUnmapped m (root_missing_range m s r)
 by_start m s true xsdt e = there m s (root_of_revision 0 s.address) e
 by_start m s false true e = there m s (root_of_revision 2 s.address) e
@@ -212,7 +212,7 @@ policed false later e = absurd cc
 
 pub opening_unmapped : OpeningLacksRange
 opening_unmapped m s e = by_start m s (s.start == 1) (s.start == 2)
-    (policed (nat_lt s.accept 4) (opened_by m s (root_pointer_in m s)) e)
+    (policed (nat_lt s.accept 32) (opened_by m s (root_pointer_in m s)) e)
 
 -- ---- the ranges of a search's candidates, and then the others
 
@@ -224,20 +224,20 @@ root_read m s place (Ok root) e is = cc
 root_read m s place (Err d) e is = cc
 
 rsdp_read : (m : Memory) (s : Source) (r : Result (ℕ × List ℕ) AcpiError) (e : Refusal)
-    → missing_in m s (opened_by m s (result_map (λ found. root_of_rsdp found.1) (refused_as r))) ≡ Err e → ⊥
+    → missing_in m s (opened_by m s (result_map (accepted_root s.accept m) (refused_as r))) ≡ Err e → ⊥
 rsdp_read m s (Ok found) e is =
-    root_read m s (root_of_rsdp found.1) (accepted_root_at s.accept m (root_of_rsdp found.1).kind (root_of_rsdp
-    found.1).address) e is
+    root_read m s (accepted_root s.accept m found) (accepted_root_at s.accept m (accepted_root s.accept m found).kind (accepted_root s.accept m
+    found).address) e is
 rsdp_read m s (Err d) e is = cc
 
 none_by : (m : Memory) (s : Source) (e : Refusal) (b c d f g : Bool)
     → missing_in m s (opened_by m s (if b then Ok (root_of_revision 0 s.address)
     else if c then Ok (root_of_revision 2 s.address)
-    else result_map (λ found. root_of_rsdp found.1)
-    (if d then refused_as (result_map (λ bytes. (s.address, bytes)) (rsdp_at m s.address))
-    else if f then refused_as (found_rsdp m)
-    else if g then refused_as (found_in_areas m (bios_areas (ebda_in m))) else Err UnknownStart))) ≡ Err e
-    → areas_missing_ranges m (if f then pieces m (word_in m) else if g then stretches (bios_areas
+    else result_map (accepted_root s.accept m)
+    (if d then refused_as (result_map (λ bytes. (s.address, bytes)) (accepted_rsdp_at s.accept m s.address))
+    else if f then refused_as (accepted_found_rsdp s.accept m)
+    else if g then refused_as (accepted_in_areas s.accept m (bios_areas (ebda_in m))) else Err UnknownStart))) ≡ Err e
+    → areas_missing_ranges s.accept m (if f then pieces m (word_in m) else if g then stretches (bios_areas
     (ebda_in m)) else no_areas)
     ≡ []
 unfolding has_valid walk_missing_ranges
@@ -248,10 +248,10 @@ none_by m s e false true d f g is =
     let place = root_of_revision 2 s.address in
     absurd (root_read m s place (accepted_root_at s.accept m place.kind place.address) e is)
 none_by m s e false false true f g is =
-    absurd (rsdp_read m s (result_map (λ bytes. (s.address, bytes)) (rsdp_at m s.address)) e is)
-none_by m s e false false false true g is = absurd (rsdp_read m s (found_rsdp m) e is)
+    absurd (rsdp_read m s (result_map (λ bytes. (s.address, bytes)) (accepted_rsdp_at s.accept m s.address)) e is)
+none_by m s e false false false true g is = absurd (rsdp_read m s (accepted_found_rsdp s.accept m) e is)
 none_by m s e false false false false true is =
-    absurd (rsdp_read m s (found_in_areas m (bios_areas (ebda_in m))) e is)
+    absurd (rsdp_read m s (accepted_in_areas s.accept m (bios_areas (ebda_in m))) e is)
 none_by m s e false false false false false is = refl
 
 no_candidates : (m : Memory) (s : Source) (e : Refusal) → missing_in m s (opened_by m s (root_pointer_in m s)) ≡ Err e
@@ -296,18 +296,18 @@ same_signature s k h = signature_is s k.0 ((bytes_eq-Decides s.0 k.0).0 h)
 
 -- ---- one candidate
 
-long_ranges : (m : Memory) (a : ℕ) (b : List ℕ) → lent m a 36 ≡ Ok b → rsdp_at m a ≡ Err MapFailed
-    → drop 1 (rsdp_ranges m a) ≡ length_ranges a (extended_length_of (rsdp_of b))
-unfolding rsdp_at
-long_ranges m a b is refused = grind (arith, rsdp_not, rsdp_length, sum_not)
+long_ranges : (accept : ℕ) (m : Memory) (a : ℕ) (b : List ℕ) → lent m a 36 ≡ Ok b → accepted_rsdp_at accept m a ≡ Err MapFailed
+    → drop 1 (accepted_rsdp_ranges accept m a) ≡ length_ranges a (extended_length_of (rsdp_of b))
+unfolding accepted_rsdp_at
+long_ranges accept m a b is refused = grind (arith, rsdp_not, rsdp_length, sum_not)
 
-pub length_said : (m : Memory) (a : ℕ) (b : List ℕ) (r : Rsdp) → lent m a 36 ≡ Ok b → r ≡ rsdp_of b
-    → rsdp_at m a ≡ Err MapFailed
-    → last_range (length_ranges a (extended_length_of r)) ≡ candidate_missing_range m a
+pub length_said : (accept : ℕ) (m : Memory) (a : ℕ) (b : List ℕ) (r : Rsdp) → lent m a 36 ≡ Ok b → r ≡ rsdp_of b
+    → accepted_rsdp_at accept m a ≡ Err MapFailed
+    → last_range (length_ranges a (extended_length_of r)) ≡ candidate_missing_range accept m a
 unfolding candidate_missing_range
-length_said m a b r is read refused =
+length_said accept m a b r is read refused =
     ap (λ q. last_range (length_ranges a (extended_length_of q))) read
-    ∙ sym (rw refused (ap last_range (long_ranges m a b is refused)))
+    ∙ sym (rw refused (ap last_range (long_ranges accept m a b is refused)))
 
 -- ---- areas that begin at a multiple of 16
 
@@ -349,26 +349,26 @@ few_missing_ranges (Some r) = omega arith
 few_missing_ranges None = omega arith
 
 -- what is written and what is left are the whole, and those that are left have a valid one if all have
-abbrev pub Walked : Memory → ℕ → ℕ → List Range → ℕ → List Range → ℕ → Bool → Type 0
-Walked m left a new next all count valid =
-    (put_from new next (walk_missing_ranges m left a) ≡ all) × (next + length (walk_missing_ranges m left a) ≡ count)
-    × (has_valid m left a ≡ valid)
+abbrev pub Walked : ℕ → Memory → ℕ → ℕ → List Range → ℕ → List Range → ℕ → Bool → Type 0
+Walked accept m left a new next all count valid =
+    (put_from new next (walk_missing_ranges accept m left a) ≡ all) × (next + length (walk_missing_ranges accept m left a) ≡ count)
+    × (has_valid accept m left a ≡ valid)
 
-pub walked_more : (m : Memory) (left a : ℕ) (new : List Range) (next : ℕ) (o : Option Range) (all : List Range)
-    (count : ℕ) (valid : Bool) → 0 < left → is_ok (rsdp_at m a) ≡ false → o ≡ candidate_missing_range m a
-    → Walked m left a new next all count valid
-    → Walked m (left - 1) (a + 16) (put_from new next (cons_option o [])) (next + length (cons_option o []))
+pub walked_more : (accept : ℕ) (m : Memory) (left a : ℕ) (new : List Range) (next : ℕ) (o : Option Range) (all : List Range)
+    (count : ℕ) (valid : Bool) → 0 < left → is_ok (accepted_rsdp_at accept m a) ≡ false → o ≡ candidate_missing_range accept m a
+    → Walked accept m left a new next all count valid
+    → Walked accept m (left - 1) (a + 16) (put_from new next (cons_option o [])) (next + length (cons_option o []))
     all count valid
 unfolding walk_missing_ranges has_valid
-walked_more m zero a new next o all count valid some refused is w = absurd (omega (arith, some))
-walked_more m (suc left) a new next o all count valid some refused is w =
+walked_more accept m zero a new next o all count valid some refused is w = absurd (omega (arith, some))
+walked_more accept m (suc left) a new next o all count valid some refused is w =
     let less : suc left - 1 ≡ left = omega arith in
-    let ys = walk_missing_ranges m left (a + 16) in
-    let missing_ranges : walk_missing_ranges m (suc left) a
-    ≡ cons_option o ys = later_missing_ranges (rsdp_at m a) false _ refused
+    let ys = walk_missing_ranges accept m left (a + 16) in
+    let missing_ranges : walk_missing_ranges accept m (suc left) a
+    ≡ cons_option o ys = later_missing_ranges (accepted_rsdp_at accept m a) false _ refused
     ∙ ap (λ x. cons_option x ys) (sym is) in
-    let found : has_valid m (suc left) a ≡ has_valid m left (a + 16) =
-    later_found (rsdp_at m a) a (walk m left (a + 16)) ∙ ap (λ b. if b then true else has_valid m left (a + 16))
+    let found : has_valid accept m (suc left) a ≡ has_valid accept m left (a + 16) =
+    later_found (accepted_rsdp_at accept m a) a (walk accept m left (a + 16)) ∙ ap (λ b. if b then true else has_valid accept m left (a + 16))
     refused in
     rw less (
       put_missing_range new next o ys ∙ (rw missing_ranges at w.0),
@@ -379,37 +379,37 @@ walked_more m (suc left) a new next o all count valid some refused is w =
     )
 
 -- a valid one is the last
-pub walked_to : (m : Memory) (left a : ℕ) (new : List Range) (next : ℕ) (all : List Range) (count : ℕ) (valid : Bool)
-    → 0 < left → is_ok (rsdp_at m a) ≡ true → Walked m left a new next all count valid
+pub walked_to : (accept : ℕ) (m : Memory) (left a : ℕ) (new : List Range) (next : ℕ) (all : List Range) (count : ℕ) (valid : Bool)
+    → 0 < left → is_ok (accepted_rsdp_at accept m a) ≡ true → Walked accept m left a new next all count valid
     → (new ≡ all) × (next ≡ count) × (true ≡ valid)
 unfolding walk_missing_ranges has_valid
-walked_to m zero a new next all count valid some is w = absurd (omega (arith, some))
-walked_to m (suc left) a new next all count valid some is w =
-    let missing_ranges : walk_missing_ranges m (suc left) a ≡ [] = later_missing_ranges (rsdp_at m a) true _ is in
-    let found : has_valid m (suc left) a ≡ true = later_found (rsdp_at m a) a (walk m left (a + 16))
-    ∙ ap (λ b. if b then true else has_valid m left (a + 16)) is in
+walked_to accept m zero a new next all count valid some is w = absurd (omega (arith, some))
+walked_to accept m (suc left) a new next all count valid some is w =
+    let missing_ranges : walk_missing_ranges accept m (suc left) a ≡ [] = later_missing_ranges (accepted_rsdp_at accept m a) true _ is in
+    let found : has_valid accept m (suc left) a ≡ true = later_found (accepted_rsdp_at accept m a) a (walk accept m left (a + 16))
+    ∙ ap (λ b. if b then true else has_valid accept m left (a + 16)) is in
     (rw missing_ranges at w.0, omega (arith, rw missing_ranges at w.1), sym found ∙ w.2)
 
-pub walked_all : (m : Memory) (left a : ℕ) (new : List Range) (next : ℕ) (all : List Range) (count : ℕ) (valid : Bool)
-    → left ≤ 0 → Walked m left a new next all count valid
+pub walked_all : (accept : ℕ) (m : Memory) (left a : ℕ) (new : List Range) (next : ℕ) (all : List Range) (count : ℕ) (valid : Bool)
+    → left ≤ 0 → Walked accept m left a new next all count valid
     → (new ≡ all) × (next ≡ count) × (false ≡ valid)
 unfolding walk_missing_ranges has_valid
-walked_all m zero a new next all count valid none w = (w.0, omega (arith, w.1), w.2)
-walked_all m (suc left) a new next all count valid none w = absurd (omega (arith, none))
+walked_all accept m zero a new next all count valid none w = (w.0, omega (arith, w.1), w.2)
+walked_all accept m (suc left) a new next all count valid none w = absurd (omega (arith, none))
 
 -- ---- of two areas
 
-module _ (m : Memory) (a : Areas) (old mid : List Range) (n : ℕ) (valid : Bool)
-    (written : mid ≡ put_from old 0 (walk_missing_ranges m a.first.count a.first.first))
-    (counted : n ≡ 0 + length (walk_missing_ranges m a.first.count a.first.first))
-    (is : valid ≡ has_valid m a.first.count a.first.first) where
-  pub first_found : valid ≡ true → Writes n old mid (areas_missing_ranges m a)
+module _ (accept : ℕ) (m : Memory) (a : Areas) (old mid : List Range) (n : ℕ) (valid : Bool)
+    (written : mid ≡ put_from old 0 (walk_missing_ranges accept m a.first.count a.first.first))
+    (counted : n ≡ 0 + length (walk_missing_ranges accept m a.first.count a.first.first))
+    (is : valid ≡ has_valid accept m a.first.count a.first.first) where
+  pub first_found : valid ≡ true → Writes n old mid (areas_missing_ranges accept m a)
   first_found found = rw (← is, found) (one_part old mid _ n written counted)
 
   pub both_walked : (new : List Range) (k : ℕ) → valid ≡ false
-      → new ≡ put_from mid n (walk_missing_ranges m a.second.count a.second.first)
-      → k ≡ n + length (walk_missing_ranges m a.second.count a.second.first)
-      → Writes k old new (areas_missing_ranges m a)
+      → new ≡ put_from mid n (walk_missing_ranges accept m a.second.count a.second.first)
+      → k ≡ n + length (walk_missing_ranges accept m a.second.count a.second.first)
+      → Writes k old new (areas_missing_ranges accept m a)
   both_walked new k none second all = rw (← is, none) (two_parts old mid new _ _ n k written counted second all)
 
 abbrev IsLow : AddressRange → Type 0

@@ -1,5 +1,5 @@
 -- The entries of a table at fault, as C gets them.
-use Rattle.std.specs.Prelude.{ℕ, ◌+◌, List, [], ◌∷◌, length, slice_index, Option, option_map}
+use Rattle.std.specs.Prelude.{ℕ, ◌+◌, List, [], ◌∷◌, length, replicate, slice_index, Option, option_map}
 use Rattle.acpi_c_lib.specs.Below.{Refusal}
 use Rattle.acpi_c_lib.specs.Codes.{code_of}
 use Rattle.acpi_c_lib.specs.Types.{cons_option, EntryFault}
@@ -7,7 +7,7 @@ use Rattle.acpi_c_lib.specs.Types.{cons_option, EntryFault}
 -- an entry of a Type, at an address, with its error
 abbrev pub entry_fault : ℕ → ℕ → Refusal → EntryFault
 entry_fault address entry_type error =
-    record { address = address; entry_type = entry_type; status = code_of error }
+    record { address = address; entry_type = entry_type; status = code_of error; reserved = replicate 2 0 }
 
 -- the item of an entry at an address, if it is at fault: at its first byte
 abbrev pub fault_at : (List ℕ → Option Refusal) → ℕ → List ℕ → Option EntryFault

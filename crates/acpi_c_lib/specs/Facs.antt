@@ -1,5 +1,5 @@
 -- The Firmware ACPI Control Structure (FACS, section 5.2.10) as C gets it.
-use Rattle.std.specs.Prelude.{ℕ, List, Result, Ok, ok_or}
+use Rattle.std.specs.Prelude.{ℕ, List, replicate, Result, Ok, ok_or}
 use Rattle.acpi_base.specs.FromStd.{result_ok}
 use Rattle.acpi_base.specs.Words.{field_of, lent, Memory, ◌>>=◌, accepted}
 use Rattle.acpi_fixed.specs.Words.{facs_address_of, fadt_at}
@@ -18,6 +18,7 @@ facs_record place head = record {
   waking_vector = field_of head 12 4;  -- Firmware_Waking_Vector
   flags = field_of head 20 4;  -- Flags
   version = field_of head 32 1;  -- Version
+  reserved = replicate 7 0;
 }
 
 abbrev pub facs_in : Memory → ℕ → Result Facs AcpiError

@@ -1,5 +1,5 @@
 -- The tables that lookups skip.
-use Rattle.std.specs.Prelude.{ℕ, List, [], ◌∷◌, if◌then◌else◌, Result, Ok, Err, bytes_eq}
+use Rattle.std.specs.Prelude.{ℕ, List, [], ◌∷◌, replicate, if◌then◌else◌, Result, Ok, Err, bytes_eq}
 use Rattle.acpi_base.specs.Words.{Kind, Memory, sdt_kind, table_at, accepted}
 use Rattle.acpi.specs.Types.{BGRT, DMAR, FADT, GTDT, HPET, IVRS, MADT, MCFG, SLIT, SPCR, SRAT, SdtInvalidSignature}
 use Rattle.acpi_c_lib.specs.Types.{Fault}
@@ -10,7 +10,7 @@ use Rattle.acpi_c_lib.specs.Shown.{Signature, signature_named}
 
 -- why the table at an address isn't valid, or isn't accepted
 abbrev pub fault_record : ℕ → ℕ → AcpiError → Fault
-fault_record taken p e = record { address = p; status = acpi_code e; accepted = taken }
+fault_record taken p e = record { address = p; status = acpi_code e; accepted = taken; reserved = replicate 3 0 }
 
 -- of a table that is accepted, if it isn't valid
 abbrev pub accepted_fault : ℕ → Result (List ℕ) AcpiError → List Fault

@@ -11,13 +11,15 @@ abbrev pub unmapped : ℕ → Table
 unmapped p = record {
   address = p;
   length = 0;
-  signature = replicate 4 0;
+  signature = record { letters = replicate 4 0 };
   revision = 0;
   oem_id = replicate 6 0;
   oem_table_id = replicate 8 0;
   oem_revision = 0;
   creator_id = replicate 4 0;
   creator_revision = 0;
+  reserved_1 = 0;
+  reserved_2 = replicate 4 0;
 }
 
 -- 0 for a table that is accepted, or the number of its error
@@ -31,11 +33,13 @@ member_record p (Ok head) table = record {
   table = table_record (p, head);
   status = member_status table;
   has_header = 1;
+  reserved = replicate 3 0;
 }
 member_record p (Err e) table = record {
   table = unmapped p;
   status = member_status table;
   has_header = 0;
+  reserved = replicate 3 0;
 }
 
 abbrev pub member_at : ℕ → Memory → ℕ → Member

@@ -4,7 +4,7 @@ use Rattle.acpi_base.specs.FromStd.{cons_option, last_or, is_some, is_ok}
 use Rattle.acpi_base.specs.Words.{Memory, at, Ranges, header_at, ◌>>=◌, lent, plain_kind, accepted, own_accepted, table_at}
 use Rattle.acpi.specs.Types.{DSDT, MapFailed, AddressRange, Fadt}
 use Rattle.acpi_fixed.specs.Words.{dsdt_address_of, fadt_at}
-use Rattle.acpi.specs.Words.{accepted_root_at, bios_areas, count_in, first_in, or_later, fadt_kind, Opened, rsdp_ranges, search_ranges, facs_place, facs_place_ranges, rsdp_at, count_of, first_area, room_of, second_area, walk, word_in, lookup}
+use Rattle.acpi.specs.Words.{accepted_root_at, bios_areas, count_in, first_in, or_later, fadt_kind, Opened, accepted_rsdp_at, accepted_rsdp_ranges, accepted_search_ranges, facs_place, facs_place_ranges, count_of, first_area, room_of, second_area, walk, word_in, lookup}
 use Rattle.acpi_c_lib.specs.Below.{AcpiError, Refusal, Source, check_policy, ebda_in, opened_in, pointers_in, root_pointer_in}
 use Rattle.acpi_c_lib.specs.Regions.{memory_in}
 pub use Rattle.acpi_c_lib.specs.declared.candidates.Areas.{Areas}
@@ -61,19 +61,19 @@ missing_ranges_below accept m ps =
 
 -- the range that a candidate's Length covers, if its first 36 bytes are mapped and that range isn't: the last of its
 -- ranges after the first
-unfoldable pub candidate_missing_range : Memory → ℕ → Option Range
-candidate_missing_range m a = missing_range (rsdp_at m a) (drop 1 (rsdp_ranges m a))
+unfoldable pub candidate_missing_range : ℕ → Memory → ℕ → Option Range
+candidate_missing_range accept m a = missing_range (accepted_rsdp_at accept m a) (drop 1 (accepted_rsdp_ranges accept m a))
 
 -- the ranges of candidates from an address on, up to the first valid one
-unfoldable pub walk_missing_ranges : Memory → ℕ → ℕ → List Range
-walk_missing_ranges m zero a = []
-walk_missing_ranges m (suc n) a = or_later (λ b. []) (rsdp_at m a) (cons_option (candidate_missing_range m a)
-    (walk_missing_ranges m n
+unfoldable pub walk_missing_ranges : ℕ → Memory → ℕ → ℕ → List Range
+walk_missing_ranges accept m zero a = []
+walk_missing_ranges accept m (suc n) a = or_later (λ b. []) (accepted_rsdp_at accept m a) (cons_option (candidate_missing_range accept m a)
+    (walk_missing_ranges accept m n
     (a + 16)))
 
 -- whether one of them is valid
-unfoldable pub has_valid : Memory → ℕ → ℕ → Bool
-has_valid m n a = is_some (walk m n a)
+unfoldable pub has_valid : ℕ → Memory → ℕ → ℕ → Bool
+has_valid accept m n a = is_some (walk accept m n a)
 
 -- no area has candidates
 abbrev pub no_areas : Areas
@@ -111,21 +111,21 @@ abbrev pub Fits : Candidates → Type 0
 Fits c = c.first + 16 * c.count ≤ 2 ^ 20
 
 -- the ranges of the first area's candidates, and if none is valid there the second's too
-abbrev pub areas_missing_ranges : Memory → Areas → List Range
-areas_missing_ranges m a =
-    walk_missing_ranges m a.first.count a.first.first
-    ++ (if has_valid m a.first.count a.first.first then [] else walk_missing_ranges m a.second.count a.second.first)
+abbrev pub areas_missing_ranges : ℕ → Memory → Areas → List Range
+areas_missing_ranges accept m a =
+    walk_missing_ranges accept m a.first.count a.first.first
+    ++ (if has_valid accept m a.first.count a.first.first then [] else walk_missing_ranges accept m a.second.count a.second.first)
 
 unfoldable pub candidate_missing_ranges : Memory → Source → List Range
-candidate_missing_ranges m s = areas_missing_ranges m (areas_of m s)
+candidate_missing_ranges m s = areas_missing_ranges s.accept m (areas_of m s)
 
 -- ---- of the tables that a caller names
 
 -- of the RSDP at an address, or of the search that needs its areas mapped whole, by the number of a start
 abbrev pub rsdp_missing_range : Memory → Source → AcpiError → Option Range
 rsdp_missing_range m s e =
-    if s.start == 0 then missing_range {A = ℕ} (Err e) (rsdp_ranges m s.address)
-    else if s.start == 3 then missing_range {A = ℕ} (Err e) (search_ranges m)
+    if s.start == 0 then missing_range {A = ℕ} (Err e) (accepted_rsdp_ranges s.accept m s.address)
+    else if s.start == 3 then missing_range {A = ℕ} (Err e) (accepted_search_ranges s.accept m)
     else None
 
 -- of the root table, or of what is to point to it
@@ -166,8 +166,8 @@ MembersLackRanges = (accept : ℕ) (m : Memory) (p : ℕ) → own_accepted accep
 
 -- so has a candidate whose first 36 bytes are mapped, and that fails because its Length's aren't
 abbrev pub CandidatesLackRanges : Type 0
-CandidatesLackRanges = (m : Memory) (a : ℕ) (b : List ℕ) → lent m a 36 ≡ Ok b → rsdp_at m a ≡ Err MapFailed
-    → IsUnmapped m (candidate_missing_range m a)
+CandidatesLackRanges = (accept : ℕ) (m : Memory) (a : ℕ) (b : List ℕ) → lent m a 36 ≡ Ok b → accepted_rsdp_at accept m a ≡ Err MapFailed
+    → IsUnmapped m (candidate_missing_range accept m a)
 
 -- so have the DSDT and the FACS that a FADT points to
 abbrev pub DsdtAndFacsLackRanges : Type 0

@@ -1,5 +1,5 @@
 -- What the calls return of the tables that a caller names.
-use Rattle.std.specs.Prelude.{ℕ, List, filter_map, length, Option, Result, Ok, unwrap_or}
+use Rattle.std.specs.Prelude.{ℕ, List, replicate, filter_map, length, Option, Result, Ok, unwrap_or}
 use Rattle.acpi_base.specs.FromStd.{result_ok}
 use Rattle.acpi_base.specs.Words.{filled_part, header_at, Memory, ◌>>=◌, plain_kind, letters_of, accepted, own_accepted, table_at}
 pub use Rattle.acpi_bytes.specs.declared.signature.Signature.{Signature}
@@ -24,6 +24,8 @@ root_record o rsdp = record {
   pointer_width = width_of o.kind;
   rsdp_address = rsdp.0;
   rsdp_length = rsdp.1;
+  reserved_1 = replicate 2 0;
+  reserved_2 = replicate 4 0;
 }
 
 abbrev pub root_below : Source → Result Root Refusal
@@ -36,13 +38,15 @@ abbrev pub table_record : ℕ × List ℕ → Table
 table_record found = record {
   address = found.0;
   length = (header_at found.1).length;
-  signature = letters_of (header_at found.1).signature;
+  signature = record { letters = letters_of (header_at found.1).signature };
   revision = (header_at found.1).revision;
   oem_id = (header_at found.1).oem_id;
   oem_table_id = (header_at found.1).oem_table_id;
   oem_revision = (header_at found.1).oem_revision;
   creator_id = filled_part found.1 28 4;  -- Creator ID
   creator_revision = (header_at found.1).creator_revision;
+  reserved_1 = 0;
+  reserved_2 = replicate 4 0;
 }
 
 -- the table of a member, if it is valid under its own signature
@@ -80,6 +84,7 @@ aml_record found = record {
   length = (stream_of found.0 found.1).length;
   revision = (header_at found.1).revision;
   table_address = found.0;
+  reserved = replicate 3 0;
 }
 
 -- the AML of the table at an address, if it is valid under a signature

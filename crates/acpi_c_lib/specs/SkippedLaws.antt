@@ -4,7 +4,7 @@ use Rattle.std.specs.Prelude.{◌≡◌, ℕ, zero, suc, ◌+◌, ◌*◌, ◌<�
 use Rattle.acpi_base.specs.FromStd.{is_ok}
 use Rattle.acpi_base.specs.Words.{Kind, Memory, accepted, table_at}
 use Rattle.acpi.specs.Types.{SdtInvalidSignature}
-use Rattle.acpi.specs.Words.{rsdp_at}
+use Rattle.acpi.specs.Words.{accepted_rsdp_at}
 use Rattle.acpi_c_lib.specs.Below.{AcpiError}
 use Rattle.acpi_c_lib.specs.Faults.{accepted_fault, fault_record, faults_among}
 use Rattle.acpi_c_lib.specs.Missing.{candidate_missing_range, walk_missing_ranges}
@@ -42,15 +42,15 @@ abbrev pub candidates_from : ℕ → ℕ → List ℕ
 candidates_from zero a = []
 candidates_from (suc n) a = a ∷ candidates_from n (a + 16)
 
-abbrev pub IsNoRsdp : Memory → ℕ → Type 0
-IsNoRsdp m a = is_ok (rsdp_at m a) ≡ false
+abbrev pub IsNoRsdp : ℕ → Memory → ℕ → Type 0
+IsNoRsdp accept m a = is_ok (accepted_rsdp_at accept m a) ≡ false
 
 abbrev pub RangesAreTheirs : Type 0
-RangesAreTheirs = (m : Memory) (n a : ℕ) → All (IsNoRsdp m) (candidates_from n a)
-    → walk_missing_ranges m n a ≡ filter_map (candidate_missing_range m) (candidates_from n a)
+RangesAreTheirs = (accept : ℕ) (m : Memory) (n a : ℕ) → All (IsNoRsdp accept m) (candidates_from n a)
+    → walk_missing_ranges accept m n a ≡ filter_map (candidate_missing_range accept m) (candidates_from n a)
 
 -- nothing is listed of the first that is valid, nor of those after it
 abbrev pub RsdpEndsRanges : Type 0
-RsdpEndsRanges = (m : Memory) (n all a : ℕ) → n < all → All (IsNoRsdp m) (candidates_from n a)
-    → is_ok (rsdp_at m (a + 16 * n)) ≡ true
-    → walk_missing_ranges m all a ≡ filter_map (candidate_missing_range m) (candidates_from n a)
+RsdpEndsRanges = (accept : ℕ) (m : Memory) (n all a : ℕ) → n < all → All (IsNoRsdp accept m) (candidates_from n a)
+    → is_ok (accepted_rsdp_at accept m (a + 16 * n)) ≡ true
+    → walk_missing_ranges accept m all a ≡ filter_map (candidate_missing_range accept m) (candidates_from n a)

@@ -6,10 +6,6 @@ pub use Rattle.acpi.specs.Types.{
   MapFailed,
   Signature,
 }
-unfoldable pub use Rattle.acpi.specs.Words.{
-  rsdp_at,
-  rsdp_of,
-}
 pub use Rattle.acpi.specs.declared.root.RootPointer.{RootPointer}
 pub use Rattle.acpi.specs.declared.rsdp.Rsdp.{Rsdp}
 pub use Rattle.acpi_base.specs.FromStd.{

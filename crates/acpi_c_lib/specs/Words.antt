@@ -16,7 +16,7 @@ pub use Rattle.acpi.specs.Words.{
   length_ranges,
 }
 unfoldable pub use Rattle.acpi.specs.Words.{
-  rsdp_at,
+  accepted_rsdp_at,
   word_in,
 }
 pub use Rattle.acpi_base.specs.FromStd.{
@@ -70,7 +70,6 @@ pub use Rattle.acpi_c_lib.specs.Below.{
   refused_as,
   root_pointer_in,
   rsdp_in,
-  rsdp_length,
   rsdp_place_in,
 }
 unfoldable pub use Rattle.acpi_c_lib.specs.Below.{
@@ -94,6 +93,7 @@ pub use Rattle.acpi_c_lib.specs.Clip.{
   wanted,
 }
 pub use Rattle.acpi_c_lib.specs.Copied.{
+  ends_early,
   padded,
   source_of_rsdp,
   started_by,

@@ -1,11 +1,11 @@
 //! What isn't mapped of the RSDPs that a search comes to (section 5.2.5.1): each is tried as the search tries it.
 ghost use Rattle.std.specs.Prelude.{◌≡◌, ◌+◌, ◌*◌, ◌/◌, ◌<◌, ◌≤◌, ◌^◌, length, Err, IfErr};
-ghost use Rattle.acpi_c_lib.specs.Words.{is_ok, MapFailed, length_ranges, rsdp_at, word_in, Writes, put_from, areas_of, candidate_missing_range, candidate_missing_ranges, Fits, has_valid, last_range, no_areas, pieces, stretch, walk_missing_ranges};
+ghost use Rattle.acpi_c_lib.specs.Words.{is_ok, MapFailed, accepted_rsdp_at, length_ranges, word_in, Writes, put_from, areas_of, candidate_missing_range, candidate_missing_ranges, Fits, has_valid, last_range, no_areas, pieces, stretch, walk_missing_ranges};
 
 use crate::missing::{is_lent, put_pair, range, second_range};
 use crate::opening::{ebda, ebda_segment};
 use crate::records::{Range, Source};
-use acpi::rsdp::{Rsdp, bios_areas, map_rsdp};
+use acpi::rsdp::{Rsdp, bios_areas, map_accepted_rsdp};
 use acpi::{AcpiError, AcpiHandler, AddressRange, PhysicalMapping};
 
 /// Candidates of a search: the address of the first, and how many there are, 16 bytes apart.
@@ -32,11 +32,11 @@ pub(crate) fn candidate_missing_ranges<H: AcpiHandler>(
     ensures few { result < 2 ^ 30 }
 {
     let areas = areas_of(handler, source);
-    let (count, is_found) = walk(handler, areas.first, out, 0);
+    let (count, is_found) = walk(handler, areas.first, source.accept, out, 0);
     if is_found {
         return count;
     }
-    walk(handler, areas.second, out, count).0
+    walk(handler, areas.second, source.accept, out, count).0
 }
 
 /// The candidates of a source's search. Another start has none.
@@ -114,28 +114,29 @@ fn stretch(area: AddressRange) -> Candidates
     }
 }
 
-/// Writes what isn't mapped of candidates from an index on, up to the first valid one. Returns the next index, and
-/// whether one is valid.
+/// Writes what isn't mapped of candidates from an index on, up to the first that the bits of `accept` accept. Returns the next index, and
+/// whether there is one.
 fn walk<H: AcpiHandler>(
     handler: &H,
     candidates: Candidates,
+    accept: u32,
     out: &mut [Range],
     from: usize,
 ) -> (usize, bool)
     requires fits { Fits candidates }
     requires few { from < 2 ^ 20 }
     ensures written { out.new ≡ put_from out.old from
-        (walk_missing_ranges (H.memory handler.now) candidates.count candidates.first) }
+        (walk_missing_ranges accept (H.memory handler.now) candidates.count candidates.first) }
     ensures next { result.0 ≡ from + length (walk_missing_ranges
-        (H.memory handler.now) candidates.count candidates.first) }
+        accept (H.memory handler.now) candidates.count candidates.first) }
     ensures most { result.0 ≤ from + candidates.count }
-    ensures found { result.1 ≡ has_valid (H.memory handler.now) candidates.count candidates.first }
+    ensures found { result.1 ≡ has_valid accept (H.memory handler.now) candidates.count candidates.first }
 {
     let mut next = from;
     let mut address = candidates.first;
     let mut left = candidates.count;
     while left > 0 {
-        match try_candidate(handler, address) {
+        match try_candidate(handler, address, accept) {
             Ok(()) => return (next, true),
             Err(missing_range) => next = put_pair((missing_range, None), out, next),
         }
@@ -145,25 +146,29 @@ fn walk<H: AcpiHandler>(
     (next, false)
 }
 
-/// Tries a candidate: whether it is valid, or else the range that its Length covers, if its first 36 bytes are mapped
+/// Tries a candidate: whether it is accepted, or else the range that its Length covers, if its first 36 bytes are mapped
 /// and that range isn't.
 #[tactic(auto, unfolding(crate::specs::Missing::candidate_missing_range))]
-fn try_candidate<H: AcpiHandler>(handler: &H, address: u64) -> Result<(), Option<Range>>
-    ensures valid { is_ok result ≡ is_ok (rsdp_at (H.memory handler.now) address) }
-    ensures missing_range { IfErr result (λ o. o ≡ candidate_missing_range (H.memory handler.now) address) }
+fn try_candidate<H: AcpiHandler>(
+    handler: &H,
+    address: u64,
+    accept: u32,
+) -> Result<(), Option<Range>>
+    ensures valid { is_ok result ≡ is_ok (accepted_rsdp_at accept (H.memory handler.now) address) }
+    ensures missing_range { IfErr result (λ o. o ≡ candidate_missing_range accept (H.memory handler.now) address) }
 {
-    match map_rsdp(handler, address) {
+    match map_accepted_rsdp(handler, address, accept) {
         Ok(_rsdp) => Ok(()),
-        Err(AcpiError::MapFailed) => Err(length_missing_range(handler, address)),
+        Err(AcpiError::MapFailed) => Err(length_missing_range(handler, address, accept)),
         Err(_) => Err(None),
     }
 }
 
 /// Of an RSDP that isn't mapped, the range that its Length covers, if its first 36 bytes are mapped.
 #[tactic(auto, using(crate::proofs::Unmapped::length_said), unfolding(crate::specs::Missing::candidate_missing_range))]
-fn length_missing_range<H: AcpiHandler>(handler: &H, address: u64) -> Option<Range>
-    requires { rsdp_at (H.memory handler.now) address ≡ Err MapFailed }
-    ensures { result ≡ candidate_missing_range (H.memory handler.now) address }
+fn length_missing_range<H: AcpiHandler>(handler: &H, address: u64, accept: u32) -> Option<Range>
+    requires { accepted_rsdp_at accept (H.memory handler.now) address ≡ Err MapFailed }
+    ensures { result ≡ candidate_missing_range accept (H.memory handler.now) address }
 {
     let Ok(rsdp) = PhysicalMapping::<'_, H, Rsdp>::map(handler, address, 36) else {
         return None;

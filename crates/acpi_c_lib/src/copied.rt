@@ -1,15 +1,15 @@
 //! A start by a copy of the RSDP, as a loader passes it.
 ghost use Rattle.std.specs.Prelude.{◌≡◌, ◌≤◌, ◌++◌, length, replicate, take};
-ghost use Rattle.acpi_c_lib.specs.Words.{padded, source_of_rsdp, started_by};
+ghost use Rattle.acpi_c_lib.specs.Words.{ends_early, padded, source_of_rsdp, started_by};
 
 use crate::records::Source;
 use crate::refusal::Refusal;
 use crate::regions::{Mapped, Region};
-use acpi::rsdp::{Rsdp, map_rsdp};
-use acpi_base::bytes::u8_in;
+use acpi::rsdp::{Rsdp, map_accepted_rsdp, read_accepted};
+use acpi_base::bytes::{has_bit, u8_in};
 
-/// A source with a start at the root table that a copy of the RSDP points to (section 5.2.5.3). A copy of revision 0
-/// has at least 20 bytes, and another all bytes of its Length.
+/// A source with a start at the root table that a copy of the RSDP points to (section 5.2.5.3). A copy of revision 0, and
+/// one that the source accepts by its first 20 bytes, has at least these, and another all bytes of its Length.
 ///
 /// Fails as a start at an RSDP does, with `MapFailed` if the copy has too few bytes.
 #[tactic(auto, using(crate::proofs::CopiedRsdp::memory_is))]
@@ -19,10 +19,11 @@ pub fn start_of_rsdp<'k>(copy: &[u8], source: Source<'k>) -> Result<Source<'k>, 
     let mut first = [0; 36];
     let regions = [Region {
         address: 0,
-        bytes: padded(copy, &mut first),
+        bytes: padded(copy, source.accept, &mut first),
     }];
     let memory = Mapped::new(&regions)?;
-    let rsdp = map_rsdp(&memory, 0)?;
+    let rsdp = map_accepted_rsdp(&memory, 0, source.accept)?;
+    let rsdp = read_accepted(&memory, &rsdp, source.accept);
     Ok(started_by(source, &rsdp))
 }
 
@@ -42,12 +43,23 @@ fn started_by<'k>(source: Source<'k>, rsdp: &Rsdp) -> Source<'k>
     }
 }
 
-/// The bytes of the copy; if its revision is 0, its 20 bytes and zeros, since it ends there.
-fn padded<'a>(copy: &'a [u8], zeros: &'a mut [u8; 36]) -> &'a [u8]
-    requires { zeros.now ≡ replicate 36 0 }
-    ensures { result.now ≡ padded copy.now }
+/// Whether a copy of at least 20 bytes ends after these: its revision is 0, or by the bits of `accept` they are enough and
+/// it has no 36.
+fn ends_early(copy: &[u8], accept: u32) -> bool
+    requires { 20 ≤ length copy.now }
+    ensures { result ≡ ends_early accept copy.now }
 {
-    if copy.len() < 20 || u8_in(copy, 15) != 0 {
+    let revision = u8_in(copy, 15);
+    let is_first_enough = has_bit(accept as u64, 4) || (has_bit(accept as u64, 3) && revision == 1);
+    revision == 0 || (copy.len() < 36 && is_first_enough)
+}
+
+/// The bytes of the copy; if it ends after 20, these and zeros.
+fn padded<'a>(copy: &'a [u8], accept: u32, zeros: &'a mut [u8; 36]) -> &'a [u8]
+    requires { zeros.now ≡ replicate 36 0 }
+    ensures { result.now ≡ padded accept copy.now }
+{
+    if copy.len() < 20 || !ends_early(copy, accept) {
         return copy;
     }
     first_part(copy, zeros)

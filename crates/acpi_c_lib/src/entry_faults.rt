@@ -11,6 +11,7 @@ pub struct EntryFault {
     pub address: u64,
     pub status: u32,
     pub entry_type: u16,
+    pub reserved: [u8; 2],
 }
 
 /// An entry of a type, at an address, with its error.
@@ -21,5 +22,6 @@ pub fn entry_fault(address: u64, entry_type: u16, error: Refusal) -> EntryFault
         address,
         entry_type,
         status: error.code(),
+        reserved: [0; 2],
     }
 }

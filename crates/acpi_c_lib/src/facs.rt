@@ -43,5 +43,6 @@ pub(crate) fn facs_at<H: AcpiHandler>(handler: &H, address: u64) -> AcpiResult<F
         waking_vector: u32_in(bytes, 12), // Firmware_Waking_Vector
         flags: u32_in(bytes, 20), // Flags
         version: u8_in(bytes, 32), // Version
+        reserved: [0; 7],
     })
 }

@@ -87,6 +87,7 @@ fn fault_record(accepted: u8, address: u64, error: AcpiError) -> Fault
         address,
         status: acpi_code(error),
         accepted,
+        reserved: [0; 3],
     }
 }
 

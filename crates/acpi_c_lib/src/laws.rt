@@ -18,7 +18,7 @@ pub fn led_tables_have_ranges()
 
 /// If the error of a candidate of a search whose first 36 bytes are mapped is `MapFailed`, there is the range that
 /// `zacpi_list_missing_ranges` lists of it, and that range is in no one region.
-#[tactic(auto, using(crate::proofs::Unmapped::rsdp_not, crate::proofs::Unmapped::sum_not), unfolding(acpi::specs::Rsdp::rsdp_at, crate::specs::Missing::candidate_missing_range))]
+#[tactic(auto, using(crate::proofs::Unmapped::rsdp_not, crate::proofs::Unmapped::sum_not), unfolding(acpi::specs::Rsdp::accepted_rsdp_at, crate::specs::Missing::candidate_missing_range))]
 pub fn candidates_have_ranges()
     ensures { CandidatesLackRanges }
 {}

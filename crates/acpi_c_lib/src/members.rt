@@ -6,7 +6,7 @@ ghost use Rattle.acpi_c_lib.specs.Words.{Fills, lists_each, member_at, member_st
 
 use crate::lists::{Listing, fill};
 use crate::opening::open;
-use crate::records::{Member, Source, Table};
+use crate::records::{Member, Signature, Source, Table};
 use crate::refusal::{Refusal, acpi_code};
 use crate::regions::Mapped;
 use crate::tables::entry;
@@ -48,11 +48,13 @@ fn member_at<H: AcpiHandler>(handler: &H, accept: u32, address: u64) -> Member
             table: entry(&head),
             status,
             has_header: 1,
+            reserved: [0; 3],
         },
         Err(_) => Member {
             table: unmapped(address),
             status,
             has_header: 0,
+            reserved: [0; 3],
         },
     }
 }
@@ -77,12 +79,14 @@ fn unmapped(address: u64) -> Table
     Table {
         address,
         length: 0,
-        signature: [0; 4],
+        signature: Signature { letters: [0; 4] },
         revision: 0,
         oem_id: [0; 6],
         oem_table_id: [0; 8],
+        reserved_1: 0,
         oem_revision: 0,
         creator_id: [0; 4],
         creator_revision: 0,
+        reserved_2: [0; 4],
     }
 }

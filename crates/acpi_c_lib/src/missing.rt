@@ -4,7 +4,7 @@ ghost use Rattle.acpi_base.specs.FromStd.{IsFinite, cons_option, is_ok};
 ghost use Rattle.acpi_base.specs.Words.{accepted, lent, plain_kind, table_at};
 ghost use Rattle.acpi_fixed.specs.Words.{dsdt_address_of, viewed};
 ghost use Rattle.acpi.specs.Types.{MapFailed};
-ghost use Rattle.acpi.specs.Words.{rsdp_at, rsdp_ranges, search_ranges, facs_place, facs_place_ranges, pointers_left, found_rsdp, room_of, second_area};
+ghost use Rattle.acpi.specs.Words.{accepted_found_rsdp, accepted_rsdp_at, accepted_rsdp_ranges, accepted_search_ranges, facs_place, facs_place_ranges, pointers_left, room_of, second_area};
 ghost use Rattle.acpi_c_lib.specs.Words.{Fills, items_said, put_from, result_map, dsdt_missing_range, opened_in, missing_range, last_range, member_missing_range, unmapped_range, missing_below, missing_in, opening_missing_range, range_of, rsdp_missing_range, rsdp_in, table_missing_range, Acpi, lists_some};
 
 use crate::candidates::candidate_missing_ranges;
@@ -241,18 +241,18 @@ fn rsdp_missing_range<H: AcpiHandler>(handler: &H, source: &Source<'_>) -> Optio
     ensures { result ≡ rsdp_missing_range (H.memory handler.now) source.now MapFailed }
 {
     match source.start {
-        0 => Some(own_missing_range(handler, source.address)),
-        3 => Some(search_missing_range(handler)),
+        0 => Some(own_missing_range(handler, source.address, source.accept)),
+        3 => Some(search_missing_range(handler, source.accept)),
         _ => None,
     }
 }
 
 /// The unmapped range because of which the RSDP at an address fails: its first 36 bytes, or the bytes of its Length
 /// (section 5.2.5.3).
-#[tactic(auto, using(crate::proofs::Unmapped::rsdp_not, crate::proofs::Unmapped::rsdp_length, crate::proofs::Unmapped::sum_not), unfolding(acpi::specs::Rsdp::rsdp_at))]
-fn own_missing_range<H: AcpiHandler>(handler: &H, address: u64) -> Range
-    requires { rsdp_at (H.memory handler.now) address ≡ Err MapFailed }
-    ensures { last_range (rsdp_ranges (H.memory handler.now) address) ≡ Some result }
+#[tactic(auto, using(crate::proofs::Unmapped::rsdp_not, crate::proofs::Unmapped::rsdp_length, crate::proofs::Unmapped::sum_not), unfolding(acpi::specs::Rsdp::accepted_rsdp_at))]
+fn own_missing_range<H: AcpiHandler>(handler: &H, address: u64, accept: u32) -> Range
+    requires { accepted_rsdp_at accept (H.memory handler.now) address ≡ Err MapFailed }
+    ensures { last_range (accepted_rsdp_ranges accept (H.memory handler.now) address) ≡ Some result }
 {
     let length = match PhysicalMapping::<'_, H, Rsdp>::map(handler, address, 36) {
         Ok(rsdp) => rsdp.length(),
@@ -265,9 +265,9 @@ fn own_missing_range<H: AcpiHandler>(handler: &H, address: u64) -> Range
 /// data area (EBDA), or the first area, 0xe0000..0x100000, or the second one, each with 16 bytes after it (section
 /// 5.2.5.1).
 #[tactic(auto, using(crate::proofs::Unmapped::search_refused))]
-fn search_missing_range<H: AcpiHandler>(handler: &H) -> Range
-    requires { found_rsdp (H.memory handler.now) ≡ Err MapFailed }
-    ensures { last_range (search_ranges (H.memory handler.now)) ≡ Some result }
+fn search_missing_range<H: AcpiHandler>(handler: &H, accept: u32) -> Range
+    requires { accepted_found_rsdp accept (H.memory handler.now) ≡ Err MapFailed }
+    ensures { last_range (accepted_search_ranges accept (H.memory handler.now)) ≡ Some result }
 {
     let Ok(word) = PhysicalMapping::<'_, H, u16>::map(handler, 0x40e, 2) else {
         return range(0x40e, 2);

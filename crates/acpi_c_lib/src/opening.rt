@@ -2,14 +2,14 @@
 ghost use Rattle.std.specs.Prelude.{◌≡◌, ◌+◌, ◌^◌, ◌<◌, ◌≤◌, length, IfOk};
 ghost use Rattle.acpi_base.specs.Words.{bytes_of, claimed_at, handler_of, sdt_kind, shown_by, start_of, Gives};
 ghost use Rattle.acpi.specs.Words.{accept_of, accepted_by, fadt_kind, lender_of, lookup, of_tables, opened_of, placed, word_in};
-ghost use Rattle.acpi_c_lib.specs.Words.{check_policy, ebda_in, first_table, found_table, opened_in, mapped_memory, memory_in, root_below, root_pointer_in, rsdp_in, rsdp_length, rsdp_place_in};
+ghost use Rattle.acpi_c_lib.specs.Words.{check_policy, ebda_in, first_table, found_table, opened_in, mapped_memory, memory_in, root_below, root_pointer_in, rsdp_in, rsdp_place_in};
 
 use crate::records::{Root, Source};
 use crate::refusal::Refusal;
 use crate::regions::Mapped;
 use acpi::fadt::{Fadt, FadtView};
 use acpi::root::{RootKind, RootPointer};
-use acpi::rsdp::{Rsdp, bios_areas, map_rsdp};
+use acpi::rsdp::{Rsdp, bios_areas, map_accepted_rsdp, read_accepted};
 use acpi::sdt::Signature;
 use acpi::{
     Accept, AcpiHandler, AcpiResult, AcpiTables, PhysicalMapping, PhysicalRecord, SdtTable,
@@ -68,8 +68,10 @@ pub(crate) fn root_pointer<H: AcpiHandler>(
         1 => (0, RootKind::Rsdt),
         2 => (2, RootKind::Xsdt),
         _ => {
-            let rsdp = find_rsdp(handler, source)?;
-            return Ok((rsdp.get().root(), Some(place_of(&rsdp))));
+            let found = find_rsdp(handler, source)?;
+            let rsdp = read_accepted(handler, &found, source.accept);
+            let place = (found.physical_start(), rsdp.length().unwrap_or(20));
+            return Ok((rsdp.root(), Some(place)));
         }
     };
     let pointer = RootPointer {
@@ -80,11 +82,11 @@ pub(crate) fn root_pointer<H: AcpiHandler>(
     Ok((pointer, None))
 }
 
-/// Fails with `UnknownPolicy` if `accept` of a source has other bits than the two that there are.
+/// Fails with `UnknownPolicy` if `accept` of a source has other bits than the five that there are.
 pub(crate) fn check_policy(source: &Source<'_>) -> Result<(), Refusal>
     ensures { Gives (λ _. tt) result (check_policy source.now) }
 {
-    if source.accept > 3 {
+    if source.accept > 31 {
         return Err(Refusal::UnknownPolicy);
     }
     Ok(())
@@ -100,19 +102,12 @@ pub(crate) fn find_rsdp<'h, H: AcpiHandler>(
     ensures { Gives placed result (rsdp_in (H.memory handler.now) source.now) }
 {
     let rsdp = match source.start {
-        0 => map_rsdp(handler, source.address)?,
-        3 => Rsdp::search_for_on_bios(handler)?,
-        4 => Rsdp::search_in(handler, &bios_areas(ebda(handler)))?,
+        0 => map_accepted_rsdp(handler, source.address, source.accept)?,
+        3 => Rsdp::search_for_on_bios_accepting(handler, source.accept)?,
+        4 => Rsdp::search_in_accepting(handler, &bios_areas(ebda(handler)), source.accept)?,
         _ => return Err(Refusal::UnknownStart),
     };
     Ok(rsdp)
-}
-
-/// The address and the length of an RSDP.
-fn place_of<H: AcpiHandler>(rsdp: &PhysicalMapping<'_, H, Rsdp>) -> (u64, u32)
-    ensures { result ≡ (start_of rsdp.now, rsdp_length (bytes_of rsdp.now)) }
-{
-    (rsdp.physical_start(), rsdp.length().unwrap_or(20))
 }
 
 /// The segment of the extended BIOS data area (EBDA), which is the word at 0x40e (section 5.2.5.1).
@@ -223,7 +218,9 @@ pub fn root(source: &Source<'_>) -> Result<Root, Refusal>
         length: tables.root_length(),
         revision: tables.revision(),
         pointer_width: tables.root_kind().width() as u8,
+        reserved_1: [0; 2],
         rsdp_address,
         rsdp_length,
+        reserved_2: [0; 4],
     })
 }

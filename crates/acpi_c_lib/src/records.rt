@@ -44,8 +44,10 @@ pub struct Root {
     pub length: u32,
     pub revision: u8,
     pub pointer_width: u8,
+    pub reserved_1: [u8; 2],
     pub rsdp_address: u64,
     pub rsdp_length: u32,
+    pub reserved_2: [u8; 4],
 }
 
 /// `struct zacpi_rsdp`.
@@ -58,6 +60,7 @@ pub struct Rsdp {
     pub length: u32,
     pub revision: u8,
     pub oem_id: [u8; 6],
+    pub reserved: u8,
 }
 
 /// `struct zacpi_table`.
@@ -66,13 +69,15 @@ pub struct Rsdp {
 pub struct Table {
     pub address: u64,
     pub length: u32,
-    pub signature: [u8; 4],
+    pub signature: Signature,
     pub revision: u8,
     pub oem_id: [u8; 6],
     pub oem_table_id: [u8; 8],
+    pub reserved_1: u8,
     pub oem_revision: u32,
     pub creator_id: [u8; 4],
     pub creator_revision: u32,
+    pub reserved_2: [u8; 4],
 }
 
 /// `struct zacpi_member`.
@@ -82,6 +87,7 @@ pub struct Member {
     pub table: Table,
     pub status: u32,
     pub has_header: u8,
+    pub reserved: [u8; 3],
 }
 
 /// `struct zacpi_fault`.
@@ -91,6 +97,7 @@ pub struct Fault {
     pub address: u64,
     pub status: u32,
     pub accepted: u8,
+    pub reserved: [u8; 3],
 }
 
 /// `struct zacpi_walk`.
@@ -120,6 +127,7 @@ pub struct AmlTable {
     pub address: u64,
     pub length: u32,
     pub revision: u8,
+    pub reserved: [u8; 3],
     pub table_address: u64,
 }
 
@@ -134,4 +142,5 @@ pub struct Facs {
     pub waking_vector: u32,
     pub flags: u32,
     pub version: u8,
+    pub reserved: [u8; 7],
 }

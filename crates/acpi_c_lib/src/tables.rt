@@ -24,13 +24,17 @@ pub(crate) fn entry<H: AcpiHandler>(table: &PhysicalMapping<'_, H, SdtHeader>) -
     Table {
         address: table.physical_start(),
         length: header.length,
-        signature: header.signature.to_bytes(),
+        signature: records::Signature {
+            letters: header.signature.to_bytes(),
+        },
         revision: header.revision,
         oem_id: header.oem_id,
         oem_table_id: header.oem_table_id,
+        reserved_1: 0,
         oem_revision: header.oem_revision,
         creator_id: filled(table.bytes(), 28), // Creator ID
         creator_revision: header.creator_revision,
+        reserved_2: [0; 4],
     }
 }
 
@@ -111,6 +115,7 @@ fn aml_at<H: AcpiHandler>(
         address: address + SdtHeader::MIN_LENGTH as u64,
         length: (table.bytes().len() - SdtHeader::MIN_LENGTH) as u32,
         revision: table.revision,
+        reserved: [0; 3],
         table_address: address,
     })
 }

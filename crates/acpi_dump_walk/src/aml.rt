@@ -60,6 +60,14 @@ impl From<AllocError> for Ends {
     }
 }
 
+/// Where a term begins that isn't known, or that isn't read.
+fn place_of(error: AmlError) -> usize {
+    match error {
+        AmlError::UnknownTerm(at) | AmlError::NotRead(at) => at,
+        _ => 0,
+    }
+}
+
 impl Ends {
     /// Whether the table is malformed by it. It isn't by what is run when the table is loaded, and by what isn't known.
     pub fn is_malformed(self) -> bool {
@@ -80,9 +88,7 @@ impl Ends {
                 at,
             ),
             Ends::Aml(AmlError::InvalidName(at)) => ("there is no name at #", at),
-            Ends::Aml(AmlError::UnknownTerm(at) | AmlError::NotRead(at)) => {
-                ("no object of a known length begins at #", at)
-            }
+            Ends::Aml(error) => ("no object of a known length begins at #", place_of(error)),
             Ends::Deep(at) => ("too many names lead to the object at #", at),
             Ends::OutOfMemory => ("out of memory", 0),
         };

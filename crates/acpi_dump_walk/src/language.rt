@@ -108,6 +108,12 @@ pub fn number_at(bytes: &[u8], offset: usize, length: usize) -> u64 {
     }
 }
 
+/// A number as a length or an offset. Where addresses have 32 bits, one that they can't have becomes the largest, past
+/// the end of all that is there.
+pub fn size(number: u64) -> usize {
+    number.min(usize::MAX as u64) as usize
+}
+
 /// The number of a factor: a number, or the number at a place of bytes.
 pub(crate) fn factor_of(word: &str, bytes: &[u8]) -> Option<u64> {
     let (offset, length) = cut_at(word, ':');
@@ -115,7 +121,7 @@ pub(crate) fn factor_of(word: &str, bytes: &[u8]) -> Option<u64> {
     if length.is_empty() {
         return Some(number);
     }
-    Some(number_at(bytes, number as usize, number_of(length)? as usize))
+    Some(number_at(bytes, size(number), size(number_of(length)?)))
 }
 
 /// The product of the factors of a term.
@@ -153,7 +159,7 @@ pub(crate) fn places_end(word: &str) -> usize {
     for factor in word.split(['+', '-', '*']) {
         let (offset, length) = cut_at(factor, ':');
         if let (Some(offset), Some(length)) = (number_of(offset), number_of(length)) {
-            last = last.max((offset as usize).saturating_add(length as usize));
+            last = last.max(size(offset.saturating_add(length)));
         }
     }
     last

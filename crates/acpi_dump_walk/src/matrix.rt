@@ -1,6 +1,6 @@
 //! The matrices of a SLIT and of HMATs.
 
-use crate::language::number_at;
+use crate::language::{number_at, size};
 
 /// Values from domains, its rows, to domains, its columns.
 #[derive(Clone, Copy)]
@@ -35,8 +35,8 @@ pub fn matrix_of(bytes: &[u8]) -> Option<Matrix<'_>> {
     let mut matrix = Matrix {
         words: "distance",
         unit: "",
-        rows: number_at(bytes, 36, 8) as usize, // Number of System Localities
-        columns: number_at(bytes, 36, 8) as usize,
+        rows: size(number_at(bytes, 36, 8)), // Number of System Localities
+        columns: size(number_at(bytes, 36, 8)),
         width: 1,
         base: 1,
         start: 44,

@@ -5,7 +5,7 @@ mod parts;
 
 use crate::aml::{Ends, Object, show_objects};
 use crate::fault::Fault;
-use crate::language::{Label, choice_of, next_word, number_of, sum_of};
+use crate::language::{Label, choice_of, next_word, number_of, size, sum_of};
 use crate::layouts::{HEADER, layout_of};
 use acpi::PhysicalRecord;
 use acpi::sdt::{SdtHeader, Signature};
@@ -177,8 +177,8 @@ fn walk_line<S: Show>(
             let end = walk_lines(piece.from(base), lines, from, depth, show);
             return Ok(base.saturating_add(end));
         }
-        ">" => shown,
-        _ => sum_of(word, piece.bytes)? as usize,
+        ">" => shown as u64,
+        _ => sum_of(word, piece.bytes)?,
     };
     let (length, rest) = next_word(rest);
     let Some(count) = length.strip_prefix('{') else {
@@ -201,20 +201,21 @@ fn walk_list<S: Show>(
     depth: u32,
     show: &mut S,
 ) -> usize {
-    let (mut start, mut number) = (extent.start, 0u64);
+    let (mut start, mut number) = (size(extent.start), 0u64);
+    let end = size(extent.end);
     let mut known = None; // the type of entries that need not be shown again
     if depth == 0 {
         return start;
     }
-    'entries: while start < extent.end && extent.is_more(number) {
+    'entries: while start < end && extent.is_more(number) {
         let offset = piece.at(start);
-        let rest = piece.bytes.get(start..extent.end).unwrap_or(&[]);
+        let rest = piece.bytes.get(start..end).unwrap_or(&[]);
         let entry = match next_entry(piece, rest, how) {
             Ok(entry) => entry,
             Err(fault) => {
                 show.malformed(offset, fault);
                 show.bytes(offset, rest);
-                return extent.end;
+                return end;
             }
         };
         let length = entry.length as u64;

@@ -6,7 +6,7 @@ use Rattle.acpi_base.proofs.FromStd.{both_ways, take_all, append-nil, drop-set-l
 use Rattle.acpi_base.proofs.Words.{number-spelling}
 use Rattle.acpi_base.specs.Words.{field_of, number, spelling, sum_of, IsBytes, Memory, Region, IsMemory, lent, check_names, header_at}
 use Rattle.acpi.specs.Types.{AcpiError}
-use Rattle.acpi.specs.Words.{root_of_revision, root_pointer, IsPointers, pointers, root_at, signature_of, width_of, check_first, check_length, check_sum, checked_length, root_of_rsdp, rsd_ptr, rsdp_at, rsdp_of}
+use Rattle.acpi.specs.Words.{root_of_revision, root_pointer, IsPointers, pointers, root_at, signature_of, width_of, accepted_length, accepted_rsdp_at, check_first, check_length, check_sum, checked_length, root_of_rsdp, rsd_ptr, rsdp_at, rsdp_of}
 use Rattle.acpi.specs.declared.root.RootKind.TheVariants.{Rsdt, Xsdt}
 use Rattle.acpi_image.proofs.Written.{length-rsdp_unsummed, length-with_first_sum, IsBytes-spelling, length-root_header, length-root_to, length-root_unsummed, lent_start, part_before, sum_is_set, table_there}
 use Rattle.acpi_image.specs.Words.{rsdp_to, rsdp_unsummed, spaces, sum_byte, with_first_sum, with_sum, root_header, root_length, root_record, root_to, root_unsummed}
@@ -78,7 +78,7 @@ module _ (a b c d e f : ℕ) where
 
       lengths : checked_length (shape y)
           ≡ check_length (if revision == 0 then None else Some (number (spelling 4 count)))
-      unfolding checked_length check_first check_sum
+      unfolding accepted_length check_first check_sum
       lengths = rw (fields_are, text, front_sum y, revision_is) refl
 
       leads : root_of_rsdp (shape y) ≡ (if revision == 0 || number (spelling 8 xsdt) == 0
@@ -146,7 +146,7 @@ module _ (m : Memory) (r : Region) (h : IsMemory m) (c : Contains m r) (long : l
 
   there_by : (first : Bool) → checked_length r.bytes ≡ check_length (if first then None else Some 36)
       → (first ≡ false → sum_of r.bytes ≡ 0) → rsdp_at m r.start ≡ Ok r.bytes
-  unfolding rsdp_at check_sum
+  unfolding accepted_rsdp_at check_sum
   there_by true many whole = rw (lent_whole, many) refl
   there_by false many whole = rw (lent_whole, many, lent_whole, whole refl) refl
 

@@ -34,9 +34,9 @@ impl<'a> Record<'a> {
         if address < self.start {
             return None;
         }
-        let skipped = (address - self.start) as usize;
-        if skipped < self.bytes.len() {
-            Some(&self.bytes[skipped..])
+        let skipped = address - self.start;
+        if skipped < self.bytes.len() as u64 {
+            Some(&self.bytes[skipped as usize..])
         } else {
             None
         }
@@ -75,14 +75,15 @@ pub(crate) fn first_record(bytes: &[u8]) -> Result<(Record<'_>, &[u8]), ImageErr
         return Err(ImageError::Truncated);
     }
     let start = field(bytes, 0, 8);
-    let length = field(bytes, 8, 8) as usize;
+    let length = field(bytes, 8, 8);
     let behind = &bytes[16..];
-    if behind.len() < length {
+    if length > behind.len() as u64 {
         return Err(ImageError::Truncated);
     }
-    if !AddressRange::new(start, length as u64).fits() {
+    if !AddressRange::new(start, length).fits() {
         return Err(ImageError::EndTooLarge);
     }
+    let length = length as usize;
     let record = Record {
         start,
         bytes: &behind[..length],

@@ -18,3 +18,4 @@ pub use ivrs::{
     BestBlockIter, DeviceEntry, DeviceEntryIter, DeviceUnit, Ivhd, Ivmd, Ivrs, IvrsBlock,
     IvrsBlockIter, IvrsBlocks, IvrsFields, MemoryIter, SpecialDevice,
 };
+pub use pieces::{PieceIter, PieceKind};

@@ -6,7 +6,7 @@ use Rattle.acpi_base.specs.Words.{IsBytes, field_of, sum_of, AreApart, IsMemory,
 use Rattle.acpi_fixed.specs.Words.{fadt_at, block_at}
 use Rattle.acpi_laws.specs.Examples.{AreMemories, TheyDiffer, TheyList, damaged, dsdt, fadt, here, hpet, madt, mcfg, memory, moved, rsdp, rsdt, ssdt, there, unnamed, xsdt}
 use Rattle.acpi_laws.specs.ExampleLaws.{Instances, MovedInstances}
-use Rattle.acpi.specs.Words.{hpet_at, own_header_at, stream_by, pointers, check_first, check_sum, checked_length, rsdp_at, rsdp_of}
+use Rattle.acpi.specs.Words.{hpet_at, own_header_at, stream_by, pointers, accepted_length, accepted_rsdp_at, check_first, check_sum, rsdp_of}
 
 -- ---- a test that regions, written out in order, are a memory
 
@@ -67,8 +67,8 @@ they_list = (refl, refl)
 
 pub instances : {A : Type 0} → Instances A
 unfolding at rest_from table_at own_accepted header_at check_names check_table field_of sum_of is_utf8 chars
-    lib.Utf8.encode own_header_at stream_by fadt_at block_at madt_at front cut item_of hpet_at rsdp_at rsdp_of
-    checked_length check_first check_sum pointers memory rsdp rsdt fadt hpet madt mcfg ssdt dsdt unnamed damaged
+    lib.Utf8.encode own_header_at stream_by fadt_at block_at madt_at front cut item_of hpet_at accepted_rsdp_at rsdp_of
+    accepted_length check_first check_sum pointers memory rsdp rsdt fadt hpet madt mcfg ssdt dsdt unnamed damaged
 instances = record {
   table = ((refl, (refl, tt)), refl);
   own_table = ((refl, (refl, tt)), refl);

@@ -31,11 +31,12 @@ first_is_found m k (p ∷ ps) = first_later p (table_at m k p) (tables_found m k
     (first_is_found m k ps)
 
 same_kind : (k : Kind) → k.least ≡ 36 → k.names ≡ check_names k.signature → k.check ≡ check_table k.signature
+    → k.own ≡ None
     → plain_kind k.signature ≡ k
-same_kind k least names check = rw (← least, ← names, ← check) refl
+same_kind k least names check own = rw (← least, ← names, ← check, ← own) refl
 
 pub found_by_signature : FoundBySignature
-found_by_signature m k ps least names check = ap (λ x. lookup m x ps) (same_kind k least names check)
+found_by_signature m k ps least names check own = ap (λ x. lookup m x ps) (same_kind k least names check own)
 
 -- ---- how long a valid table is
 

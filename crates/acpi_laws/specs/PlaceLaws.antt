@@ -1,5 +1,5 @@
 -- What holds of the members of a root table, and of the ranges in which the tables are (`definitions_hold`).
-use Rattle.std.specs.Prelude.{◌≡◌, ◌⊎◌, ℕ, ◌+◌, ◌≤◌, List, [], ◌∷◌, IsErr, Ok, filter_map, length, map, slice_get}
+use Rattle.std.specs.Prelude.{◌≡◌, ◌⊎◌, ℕ, ◌+◌, ◌≤◌, List, [], ◌∷◌, None, IsErr, Ok, filter_map, length, map, slice_get}
 use Rattle.acpi_base.specs.FromStd.{AllByRecursion, result_ok}
 use Rattle.acpi.specs.Types.{DSDT, AddressRange}
 use Rattle.acpi_base.specs.Words.{check_names, check_table, Memory, Ranges, Kind, own_table_at, plain_kind, table_at}
@@ -24,7 +24,7 @@ FirstIsFound = (m : Memory) (k : Kind) (ps : List ℕ)
 -- a lookup by a signature alone is the lookup of a type that wants no more than a header's checks
 abbrev pub FoundBySignature : Type 0
 FoundBySignature = (m : Memory) (k : Kind) (ps : List ℕ)
-    → k.least ≡ 36 → k.names ≡ check_names k.signature → k.check ≡ check_table k.signature
+    → k.least ≡ 36 → k.names ≡ check_names k.signature → k.check ≡ check_table k.signature → k.own ≡ None
     → lookup m (plain_kind k.signature) ps ≡ lookup m k ps
 
 -- ---- the ranges in which the tables are

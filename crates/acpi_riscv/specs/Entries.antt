@@ -1,6 +1,6 @@
 -- The entries of a MADT that describe a RISC-V machine (ACPI 6.6, section 5.2.12). A field past the end of an entry is
 -- read as zeros.
-use Rattle.std.specs.Prelude.{ℕ, ◌==◌, ◌&&◌, ◌||◌, Bool, nat_le, nat_lt, List, length, slice_index, Option, Some, None, if◌then◌else◌, filter_map}
+use Rattle.std.specs.Prelude.{ℕ, ◌==◌, ◌&&◌, ◌||◌, Bool, nat_le, nat_lt, List, length, replicate, slice_index, Option, Some, None, if◌then◌else◌, filter_map}
 use Rattle.acpi_base.specs.Words.{cut, cut_of, field_of, madt_grammar}
 use Rattle.acpi_riscv.specs.declared.entry.Aplic.{Aplic}
 use Rattle.acpi_riscv.specs.declared.entry.Imsic.{Imsic}
@@ -20,6 +20,7 @@ rintc_at b = record {
   external_interrupt_controller_id = field_of b 20 4;  -- External Interrupt Controller ID
   imsic_address = field_of b 24 8;  -- IMSIC Base Address
   imsic_size = field_of b 32 4;  -- IMSIC Size
+  reserved = replicate 7 0;
 }
 
 -- Incoming MSI Controller (IMSIC)
@@ -33,6 +34,7 @@ imsic_at b = record {
   hart_index_bits = field_of b 13 1;  -- Hart Index Bits
   group_index_bits = field_of b 14 1;  -- Group Index Bits
   group_index_shift = field_of b 15 1;  -- Group Index Shift
+  reserved = replicate 3 0;
 }
 
 -- Advanced Platform Level Interrupt Controller (APLIC)
@@ -47,6 +49,7 @@ aplic_at b = record {
   global_system_interrupt_base = field_of b 20 4;  -- Global System Interrupt Base
   address = field_of b 24 8;  -- APLIC Address
   size = field_of b 32 4;  -- APLIC Size
+  reserved = replicate 6 0;
 }
 
 -- Platform Level Interrupt Controller (PLIC)
@@ -61,6 +64,7 @@ plic_at b = record {
   size = field_of b 20 4;  -- PLIC Size
   address = field_of b 24 8;  -- PLIC Address
   global_system_interrupt_base = field_of b 32 4;  -- Global System Interrupt Vector Base
+  reserved = replicate 6 0;
 }
 
 -- how many bytes an entry of one of these types has at least, by its layout

@@ -27,6 +27,8 @@ pub struct Rintc {
     pub imsic_size: u32,
     /// Version: 1.
     pub version: u8,
+    /// 0: no byte of the record is padding.
+    pub reserved: [u8; 7],
 }
 
 /// Incoming MSI Controller (IMSIC), type 0x19: what the IMSICs of all harts have in common.
@@ -49,6 +51,8 @@ pub struct Imsic {
     pub group_index_shift: u8,
     /// Version: 1.
     pub version: u8,
+    /// 0: no byte of the record is padding.
+    pub reserved: [u8; 3],
 }
 
 /// Advanced Platform Level Interrupt Controller (APLIC), type 0x1a.
@@ -73,6 +77,8 @@ pub struct Aplic {
     pub id: u8,
     /// Version: 1.
     pub version: u8,
+    /// 0: no byte of the record is padding.
+    pub reserved: [u8; 6],
 }
 
 /// Platform Level Interrupt Controller (PLIC), type 0x1b.
@@ -97,6 +103,8 @@ pub struct Plic {
     pub id: u8,
     /// Version: 1.
     pub version: u8,
+    /// 0: no byte of the record is padding.
+    pub reserved: [u8; 6],
 }
 
 /// An entry of a MADT that describes a RISC-V machine, with its fields.

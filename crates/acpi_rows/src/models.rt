@@ -16,8 +16,8 @@ pub(crate) fn print_model<A: Allocator>(
     processors: &Option<ProcessorInfo<A>>,
 ) {
     match model {
-        InterruptModel::Unknown => out.print(&"unknown model"),
         InterruptModel::Apic(apic) => print_apics(out, apic),
+        _ => out.print(&"unknown model"),
     }
     if let Some(processors) = processors {
         out.spread(&(

@@ -2,6 +2,7 @@
 use Rattle.std.proofs.Common.{◌≡◌, ℕ, ◌+◌, ◌%◌, ◌^◌, ◌<◌, ◌≤◌, true, false, List, [], ◌∷◌, ◌++◌, length, Option, Some, None, Result, Ok, Err, refl, sym, ap, subst, ◌∙◌, arith, lit≤, length-append, ◌*◌, ◌&&◌, ◌==◌, nat_lt, not, replicate, bytes_eq}
 use Rattle.acpi_base.proofs.FromStd.{bytes_eq-Decides, and_parts, le-leb, lt-ltb, ltb-true, All-from_recursion, recursion_from_All}
 use Rattle.acpi_base.proofs.Words.{bind_ok, holds_ok, same_ok}
+use Rattle.acpi.specs.Words.{accepted_rsdp_at}
 use Rattle.acpi.proofs.Search.{whole_there}
 use Rattle.acpi_image.proofs.Written.{table_is}
 use Rattle.acpi_writer.specs.Words.{AllByRecursion, aml_checked, table_written, result_ok, Memory, IsMemory, at, plain_kind, sdt_kind, table_at, letters_of, AcpiError, Signature, DSDT, FADT, XSDT, dsdt_stream, stream_by, stream_of, lookup, facs_place, by_first_fadt, range, at_hand, check_rsdp, check_whole, checked_length, rsdp_at, Xsdt, FitsContents, bytes_of, contents_written, most, or_none, FitsFacs, is_named, addresses, gap, laid, padded, rounded, FacsFits, Machine, after_dsdt, check_by, dsdt_address, dsdt_at, dsdt_end, dsdt_length, dsdt_of, dsdt_written, facs_address, facs_at, facs_from, facs_gap, facs_laid, facs_room, listed, machine_by, pointers_of, rest_bytes, size_by, tables_address, tree_by, tree_bytes, tree_size, xsdt_bytes, xsdt_length, HasFacs, IsOpened, IsWritable, MachineIsRead, TreeIsRead, first_at, first_of, place_of, IsRoot, Leads, rsdp_bytes, AreIds, IsValid, are_texts, AmlContents, TableContents, Fadt, BadName, TooLong, FacsContents, FadtContents, TableIds}
@@ -18,7 +19,7 @@ use Rattle.acpi_table_writer.proofs.Sized.{wrote}
 
 pub rsdp_there : (m : Memory) (p : ℕ) (b : List ℕ) → length b ≡ 36 → at m p 36 ≡ Some b → check_rsdp b ≡ Ok tt
     → rsdp_at m p ≡ Ok b
-unfolding rsdp_at check_rsdp
+unfolding accepted_rsdp_at check_rsdp
 rsdp_there m p b long e checked =
     let parts = bind_ok (checked_length b) (λ n. check_whole (at_hand b) n) tt checked in
     let all : at m p (length b) ≡ Some b = ap (at m p) long ∙ e in

@@ -35,6 +35,7 @@ pub use Rattle.acpi.specs.Words.{
   by_first_fadt,
   bytes_found,
   check_whole,
+  checked_length,
   dsdt_stream,
   facs_length_in,
   facs_place,
@@ -49,6 +50,7 @@ pub use Rattle.acpi.specs.Words.{
   range,
   root_of_rsdp,
   root_pointer,
+  rsdp_at,
   stream_of,
   timer_of,
   width_of,
@@ -56,10 +58,8 @@ pub use Rattle.acpi.specs.Words.{
 unfoldable pub use Rattle.acpi.specs.Words.{
   check_rsdp,
   check_sum,
-  checked_length,
   facs_length,
   pointers,
-  rsdp_at,
   rsdp_of,
   stream_by,
 }

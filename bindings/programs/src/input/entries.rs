@@ -249,7 +249,7 @@ pub fn entries_of_files(alloc: Global, files: &[TableFile]) -> Result<Vec<Entry<
 
 /// Bytes without the first `count` of them.
 fn bytes_after(bytes: &[u8], count: u64) -> &[u8] {
-    bytes.get(count as usize..).unwrap_or(&[])
+    if count <= bytes.len() as u64 { &bytes[count as usize..] } else { &[] }
 }
 
 /// The bytes of a memory from an address to the end of its record, or none if it is in no record. They are the file's

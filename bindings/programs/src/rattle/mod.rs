@@ -2,6 +2,8 @@
 //! error, and a program reaches outside by a runtime that its `main` is passed.
 
 pub mod alloc;
+#[cfg(unix)]
+mod begun;
 pub mod bitflags;
 pub mod collections;
 pub mod fs;

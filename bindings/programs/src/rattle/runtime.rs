@@ -27,7 +27,7 @@ impl HostRuntime {
     }
 }
 
-/// The standard output, for what depends on where it goes.
+/// The standard output.
 pub struct Output;
 
 impl Output {
@@ -35,6 +35,34 @@ impl Output {
     /// up by calls that std hasn't.
     pub fn is_terminal(&self) -> bool {
         !cfg!(windows) && std::io::IsTerminal::is_terminal(&std::io::stdout())
+    }
+
+    /// A file of its descriptor: what can't be written to one that is closed, or open for reading alone, std's own
+    /// takes for written.
+    #[cfg(unix)]
+    fn file() -> std::io::Result<std::fs::File> {
+        const EBADF: i32 = 9;
+        if super::begun::is_stdout_closed() {
+            return Err(std::io::Error::from_raw_os_error(EBADF));
+        }
+        std::os::fd::AsFd::as_fd(&std::io::stdout()).try_clone_to_owned().map(std::fs::File::from)
+    }
+
+    #[cfg(not(unix))]
+    fn file() -> std::io::Result<std::io::Stdout> {
+        Ok(std::io::stdout())
+    }
+}
+
+impl std::io::Write for Output {
+    fn write(&mut self, bytes: &[u8]) -> std::io::Result<usize> {
+        Output::file()?.write(bytes)
+    }
+
+    fn flush(&mut self) -> std::io::Result<()> {
+        #[cfg(not(unix))]
+        std::io::stdout().flush()?;
+        Ok(())
     }
 }
 
@@ -67,9 +95,9 @@ pub mod io {
 
     impl<R: Read> ReadToEndIn for R {}
 
-    /// A buffered writer of the standard output.
-    pub fn writer(_rt: &super::HostRuntime) -> BufWriter<Stdout> {
-        BufWriter::new(stdout())
+    /// The standard output. It isn't buffered, so that each write that fails is seen.
+    pub fn writer(rt: &super::HostRuntime) -> super::Output {
+        rt.stdout()
     }
 }
 

@@ -61,6 +61,14 @@ impl From<AllocError> for Ends {
     }
 }
 
+/// Where a term begins that isn't known, or that isn't read.
+fn place_of(error: AmlError) -> usize {
+    match error {
+        AmlError::UnknownTerm(at) | AmlError::NotRead(at) => at,
+        _ => 0,
+    }
+}
+
 impl Ends {
     /// Whether the table is malformed by it. It isn't by what is run when the table is loaded, and by what isn't known.
     pub fn is_malformed(self) -> bool {
@@ -73,9 +81,7 @@ impl Ends {
             Ends::Aml(AmlError::PastEnd(at)) => ("the table or the block ends in what begins at #", at),
             Ends::Aml(AmlError::InvalidLength(at)) => ("the length of a block isn't right at #", at),
             Ends::Aml(AmlError::InvalidName(at)) => ("there is no name at #", at),
-            Ends::Aml(AmlError::UnknownTerm(at) | AmlError::NotRead(at)) => {
-                ("no object of a known length begins at #", at)
-            }
+            Ends::Aml(error) => ("no object of a known length begins at #", place_of(error)),
             Ends::Deep(at) => ("too many names lead to the object at #", at),
             Ends::OutOfMemory => ("out of memory", 0),
         };

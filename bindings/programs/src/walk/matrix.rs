@@ -1,7 +1,7 @@
 // Made by scripts/erase of crates/acpi_dump_walk/src/matrix.rt, where it is proved.
 //! The matrices of a SLIT and of HMATs.
 
-use crate::walk::language::number_at;
+use crate::walk::language::{number_at, size};
 
 /// Values from domains, its rows, to domains, its columns.
 #[derive(Clone, Copy)]
@@ -36,8 +36,8 @@ pub fn matrix_of(bytes: &[u8]) -> Option<Matrix<'_>> {
     let mut matrix = Matrix {
         words: "distance",
         unit: "",
-        rows: number_at(bytes, 36, 8) as usize, // Number of System Localities
-        columns: number_at(bytes, 36, 8) as usize,
+        rows: size(number_at(bytes, 36, 8)), // Number of System Localities
+        columns: size(number_at(bytes, 36, 8)),
         width: 1,
         base: 1,
         start: 44,

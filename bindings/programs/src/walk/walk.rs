@@ -8,7 +8,7 @@ use crate::rattle::Pieces;
 use crate::rattle::alloc::Global;
 use crate::walk::aml::{Ends, Object, show_objects};
 use crate::walk::fault::Fault;
-use crate::walk::language::{Label, choice_of, next_word, number_of, sum_of};
+use crate::walk::language::{Label, choice_of, next_word, number_of, size, sum_of};
 use crate::walk::layouts::{HEADER, layout_of};
 use entry::next_entry;
 use parts::{Extent, Piece, list_extent, show_fields, show_gap, show_missing, show_start};
@@ -151,8 +151,8 @@ fn walk_line<S: Show>(
             let end = walk_lines(piece.from(base), lines, from, depth, show);
             return Ok(base.saturating_add(end));
         }
-        ">" => shown,
-        _ => sum_of(word, piece.bytes)? as usize,
+        ">" => shown as u64,
+        _ => sum_of(word, piece.bytes)?,
     };
     let (length, rest) = next_word(rest);
     let Some(count) = length.strip_prefix('{') else {
@@ -168,20 +168,21 @@ fn walk_line<S: Show>(
 
 /// Shows the entries of a list, as far as they are there. Returns up to where the structure is shown then.
 fn walk_list<S: Show>(piece: Piece<'_>, extent: Extent, how: &'static str, depth: u32, show: &mut S) -> usize {
-    let (mut start, mut number) = (extent.start, 0u64);
+    let (mut start, mut number) = (size(extent.start), 0u64);
+    let end = size(extent.end);
     let mut known = None; // the type of entries that need not be shown again
     if depth == 0 {
         return start;
     }
-    'entries: while start < extent.end && extent.is_more(number) {
+    'entries: while start < end && extent.is_more(number) {
         let offset = piece.at(start);
-        let rest = piece.bytes.get(start..extent.end).unwrap_or(&[]);
+        let rest = piece.bytes.get(start..end).unwrap_or(&[]);
         let entry = match next_entry(piece, rest, how) {
             Ok(entry) => entry,
             Err(fault) => {
                 show.malformed(offset, fault);
                 show.bytes(offset, rest);
-                return extent.end;
+                return end;
             }
         };
         let length = entry.length as u64;

@@ -10,6 +10,7 @@ use core::marker::PhantomData;
 /// The faults of the members that a lookup of `T` passes over, as `AcpiTables::faults` gives them: the
 /// members before the first one that is accepted for `T`, or all members if none is, in the order of the root
 /// table. A member with another signature (`SdtInvalidSignature`) is not a fault.
+#[derive(Debug)]
 pub struct TableFaults<'t, 'h, H: Lender, T: AcpiTable> {
     handler: &'h H,
     pointers: Pointers<'t>,

@@ -9,6 +9,7 @@ use crate::base::sdt::SdtHeader;
 
 /// The headers (section 5.2.6) of all members that are valid under the signatures that they have, in the
 /// order of the root table, as `AcpiTables::headers` gives them. A table that is listed twice comes twice.
+#[derive(Debug)]
 pub struct SdtHeaderIterator<'t, 'h, H: Lender> {
     handler: &'h H,
     pointers: Pointers<'t>,

@@ -24,6 +24,7 @@ pub struct HpetTable {
 /// Page Protection: whether accesses to the page of the timer's registers, after the registers, do no harm
 /// (the lowest 4 bits of Page Protection And OEM Attribute).
 #[derive(Clone, Copy, Debug, PartialEq, Eq)]
+#[non_exhaustive]
 pub enum PageProtection {
     /// Nothing is promised.
     None = 0,

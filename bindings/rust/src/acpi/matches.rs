@@ -9,6 +9,7 @@ use core::marker::PhantomData;
 
 /// The members of the root table that are accepted for `T`, in its order, as `AcpiTables::find_tables` gives
 /// them: each is a mapping of the table. A table that is listed twice comes twice.
+#[derive(Debug)]
 pub struct FoundTables<'t, 'h, H: Lender, T: AcpiTable> {
     handler: &'h H,
     pointers: Pointers<'t>,

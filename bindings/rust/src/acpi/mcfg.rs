@@ -15,6 +15,7 @@ pub use ecam::EcamRanges;
 /// The regions of memory that hold the configuration space of PCI functions, each that of some buses of a
 /// PCI segment group: the entries of an MCFG. Section 5.2.6 reserves the table's signature; its layout is
 /// the PCI Firmware Specification's (section 4.1.2).
+#[derive(Debug)]
 pub struct PciConfigRegions<A: Allocator> {
     regions: ManagedSlice<McfgEntry, A>,
 }

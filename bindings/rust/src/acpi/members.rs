@@ -7,7 +7,8 @@ use crate::base::sdt::{SdtHeader, map_own_sdt};
 use crate::base::{AcpiResult, Lender};
 
 /// A member of the root table: a pointer, and the header of the table there or why that is refused.
-#[derive(Clone, Copy)]
+#[derive(Clone, Copy, Debug)]
+#[non_exhaustive]
 pub struct TableMember {
     /// The pointer: the physical address that the root table lists.
     pub address: u64,
@@ -20,6 +21,7 @@ impl Asked for TableMember {}
 
 /// The members of the root table, one for each pointer, in order, as `AcpiTables::members` gives them. A
 /// table that is listed twice comes twice.
+#[derive(Debug)]
 pub struct TableMembers<'t, 'h, H: Lender> {
     handler: &'h H,
     pointers: Pointers<'t>,

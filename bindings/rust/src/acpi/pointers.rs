@@ -4,6 +4,7 @@
 use crate::base::bytes::{field, skip};
 
 /// The pointers that bytes encode, in order; a short remainder is one more pointer, filled up with zeros.
+#[derive(Debug)]
 pub struct Pointers<'t> {
     width: usize,
     rest: &'t [u8],

@@ -9,6 +9,7 @@ use crate::base::{AcpiError, AcpiResult, AddressRange, Lender, PhysicalMapping, 
 /// The ranges of physical memory in which the tables lie, as `AcpiTables::ranges` gives them: that of the
 /// root table, then that of each valid member in the order of the root table, then those of the DSDT and
 /// the FACS, if these are valid. A table that is listed twice comes twice.
+#[derive(Debug)]
 pub struct TableRanges<'t, 'h, H: Lender> {
     handler: &'h H,
     root: Option<AddressRange>,

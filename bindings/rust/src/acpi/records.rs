@@ -16,6 +16,7 @@ pub struct AmlTable {
 
 /// A member of the root table that a lookup passes over as faulty.
 #[derive(Clone, Copy, Debug, PartialEq, Eq)]
+#[non_exhaustive]
 pub struct TableFault {
     /// The physical address that the root table lists.
     pub address: u64,

@@ -4,7 +4,7 @@
 use crate::base::Signature;
 
 /// The kind of a root table. Both list the tables that the firmware has, by their addresses.
-#[derive(Clone, Copy)]
+#[derive(Clone, Copy, Debug)]
 pub enum RootKind {
     /// Root System Description Table (RSDT), whose pointers have four bytes (section 5.2.7).
     Rsdt,
@@ -38,7 +38,7 @@ impl RootKind {
 }
 
 /// The address at which a root table is looked for, and its kind.
-#[derive(Clone, Copy)]
+#[derive(Clone, Copy, Debug)]
 pub struct RootPointer {
     /// The revision of what names the table.
     pub revision: u8,

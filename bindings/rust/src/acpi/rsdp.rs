@@ -6,7 +6,7 @@ mod bios;
 mod readings;
 
 use crate::acpi::root::{RootKind, RootPointer};
-use crate::base::bytes::{byte_sum, is_text, text_of};
+use crate::base::bytes::{byte_sum, has_bit, is_text, text_of};
 use crate::base::{AcpiError, AcpiResult, Lender, PhysicalMapping, PhysicalRecord};
 pub use areas::bios_areas;
 pub(crate) use bios::{Area, second_area};
@@ -17,7 +17,8 @@ pub(crate) use bios::{Area, second_area};
 pub struct Rsdp {
     signature: [u8; 8],
     checksum: u8,
-    oem_id: [u8; 6],
+    /// OEMID: the bytes of the OEM's name. `oem_id()` is their text.
+    pub oem_id: [u8; 6],
     revision: u8,
     rsdt_address: u32,
     length: u32,
@@ -91,33 +92,46 @@ impl Rsdp {
     ///
     /// Panics if there are fewer than 36 bytes, or fewer than the length that this RSDP has.
     pub fn validate(&self, bytes: &[u8]) -> AcpiResult<()> {
-        match self.summed_length(bytes)? {
+        match self.summed_length(bytes, 0)? {
             None => Ok(()),
             Some(length) if length > bytes.len() => Err(AcpiError::RsdpInvalidChecksum),
             Some(length) => check_sum(&bytes[..length]),
         }
     }
 
-    /// Checks the first 20 bytes, which every revision has, and returns how many bytes are to sum to 0 after
-    /// that: `None` for revision 0, else the length.
-    fn summed_length(&self, bytes: &[u8]) -> AcpiResult<Option<usize>> {
-        if self.signature != *b"RSD PTR " {
-            return Err(AcpiError::RsdpIncorrectSignature);
-        }
-        if !is_text(&self.oem_id) {
-            return Err(AcpiError::RsdpInvalidOemId);
-        }
-        check_sum(&bytes[..20])?;
+    /// How many bytes are to sum to 0 by an RSDP's length: `None` for revision 0.
+    fn extended_length(&self) -> AcpiResult<Option<usize>> {
         match self.length() {
             None => Ok(None),
             Some(length) if length < 36 => Err(AcpiError::RsdpInvalidChecksum),
             Some(length) => Ok(Some(length as usize)),
         }
     }
+
+    /// Whether by the bits of `accept` it is accepted by its first 20 bytes.
+    fn is_first_enough(&self, accept: u32) -> bool {
+        has_bit(accept as u64, 4) || (has_bit(accept as u64, 3) && self.revision == 1)
+    }
+
+    /// Checks the first 20 bytes, which every revision has, and returns how many bytes are to sum to 0 after
+    /// that: `None` for revision 0 and if the bits of `accept` give their checks up, else the length.
+    fn summed_length(&self, bytes: &[u8], accept: u32) -> AcpiResult<Option<usize>> {
+        if self.signature != *b"RSD PTR " {
+            return Err(AcpiError::RsdpIncorrectSignature);
+        }
+        if !has_bit(accept as u64, 2) && !is_text(&self.oem_id) {
+            return Err(AcpiError::RsdpInvalidOemId);
+        }
+        check_sum(&bytes[..20])?;
+        if self.is_first_enough(accept) {
+            return Ok(None);
+        }
+        self.extended_length()
+    }
 }
 
 /// A record that means nothing: a mapping of it shows the bytes, at least one, as they are.
-#[derive(Clone, Copy)]
+#[derive(Clone, Copy, Debug)]
 struct RawBytes;
 
 impl PhysicalRecord for RawBytes {
@@ -137,14 +151,53 @@ fn check_sum(bytes: &[u8]) -> AcpiResult<()> {
     Ok(())
 }
 
-/// The checks of an RSDP whose 36 bytes are mapped. For the sum of the whole, as many bytes are mapped as its
-/// length.
-fn check_mapped<H: Lender>(handler: &H, rsdp: &PhysicalMapping<'_, H, Rsdp>) -> AcpiResult<()> {
-    let Some(length) = rsdp.get().summed_length(rsdp.bytes())? else {
+/// Checks that the bytes of an RSDP at an address sum to 0, if it has a length.
+fn check_whole<H: Lender>(handler: &H, address: u64, length: Option<usize>) -> AcpiResult<()> {
+    let Some(length) = length else {
         return Ok(());
     };
-    let whole = PhysicalMapping::<'_, H, RawBytes>::map(handler, rsdp.physical_start(), length)?;
+    let whole = PhysicalMapping::<'_, H, RawBytes>::map(handler, address, length)?;
     check_sum(whole.bytes())
+}
+
+/// The checks that the bits of `accept` leave of an RSDP whose 36 bytes are mapped. For the sum of the whole, as many
+/// bytes are mapped as its length.
+fn check_mapped<H: Lender>(handler: &H, rsdp: &PhysicalMapping<'_, H, Rsdp>, accept: u32) -> AcpiResult<()> {
+    let length = rsdp.get().summed_length(rsdp.bytes(), accept)?;
+    check_whole(handler, rsdp.physical_start(), length)
+}
+
+/// The checks of an RSDP's whole bytes, of which the first 36 are mapped.
+fn check_extended<H: Lender>(handler: &H, rsdp: &PhysicalMapping<'_, H, Rsdp>) -> AcpiResult<()> {
+    let length = rsdp.get().extended_length()?;
+    check_whole(handler, rsdp.physical_start(), length)
+}
+
+/// The RSDP whose 36 bytes are mapped, as it is read if the bits of `accept` accept it. It is read as one of revision 0,
+/// of which only the first 20 bytes count, by bit 3 if its revision is 1, and by bit 4 if its whole fails its checks:
+/// the length is under 36, or as many bytes aren't mapped or don't sum to 0 modulo 256.
+pub fn read_accepted<H: Lender>(handler: &H, rsdp: &PhysicalMapping<'_, H, Rsdp>, accept: u32) -> Rsdp {
+    let record = *rsdp.get();
+    if (has_bit(accept as u64, 3) && record.revision == 1)
+        || (has_bit(accept as u64, 4) && check_extended(handler, rsdp).is_err())
+    {
+        return Rsdp { revision: 0, ..record };
+    }
+    record
+}
+
+/// The RSDP at an address, if the bits of `accept` accept it: a mapping of its 36 bytes. `read_accepted` reads it. By bit
+/// 2 its OEM id may be any. By bit 3 one of revision 1 is accepted by its first 20 bytes, and by bit 4 each.
+///
+/// Fails as `map_rsdp` does, but for the checks that are given up.
+pub fn map_accepted_rsdp<'h, H: Lender>(
+    handler: &'h H,
+    address: u64,
+    accept: u32,
+) -> AcpiResult<PhysicalMapping<'h, H, Rsdp>> {
+    let rsdp = PhysicalMapping::<'h, H, Rsdp>::map(handler, address, 36)?;
+    check_mapped(handler, &rsdp, accept)?;
+    Ok(rsdp)
 }
 
 /// The valid RSDP at an address: a mapping of its 36 bytes.
@@ -155,7 +208,5 @@ fn check_mapped<H: Lender>(handler: &H, rsdp: &PhysicalMapping<'_, H, Rsdp>) -> 
 /// 0 it goes on with `RsdpInvalidChecksum` if the length is under 36, `MapFailed` if that
 /// many bytes aren't mapped, and `RsdpInvalidChecksum` if they do not sum to 0 modulo 256.
 pub fn map_rsdp<'h, H: Lender>(handler: &'h H, address: u64) -> AcpiResult<PhysicalMapping<'h, H, Rsdp>> {
-    let rsdp = PhysicalMapping::<'h, H, Rsdp>::map(handler, address, 36)?;
-    check_mapped(handler, &rsdp)?;
-    Ok(rsdp)
+    map_accepted_rsdp(handler, address, 0)
 }

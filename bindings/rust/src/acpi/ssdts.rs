@@ -9,6 +9,7 @@ use crate::base::sdt::Signature;
 
 /// The AML of all members that are accepted as SSDTs (section 5.2.11.2), in the order of the root table, as
 /// `AcpiTables::ssdts` gives it. A table that is listed twice comes twice.
+#[derive(Debug)]
 pub struct SsdtIterator<'t, 'h, H: Lender> {
     handler: &'h H,
     pointers: Pointers<'t>,

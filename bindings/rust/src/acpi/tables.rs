@@ -26,6 +26,7 @@ use crate::fixed::fadt::{Fadt, FadtView};
 ///
 /// A table is accepted if it passes all checks but those that the policy `P` leaves out. The default, `Valid`, leaves
 /// out none.
+#[derive(Debug)]
 pub struct AcpiTables<'h, H: Lender, P: Policy = Valid> {
     policy: P,
     revision: u8,

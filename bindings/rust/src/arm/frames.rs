@@ -56,7 +56,7 @@ fn interrupt_at(bytes: &[u8], offset: usize) -> TimerInterrupt {
 }
 
 /// The frames of a GT Block (section 5.2.24.1.1), in order.
-#[derive(Clone, Copy)]
+#[derive(Clone, Copy, Debug)]
 pub struct GtFrameIter<'a> {
     rest: &'a [u8],
     left: u32,

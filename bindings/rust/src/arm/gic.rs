@@ -19,6 +19,8 @@ pub use part::{
 
 /// The Generic Interrupt Controller (GIC) of a machine, with the processors that have an interface to it
 /// (sections 5.2.12.14 to 5.2.12.18).
+#[derive(Debug)]
+#[non_exhaustive]
 pub struct GicModel<A: Allocator> {
     /// GIC Distributor (GICD, section 5.2.12.15): that of the first such entry.
     pub distributor: GicDistributor,

@@ -54,7 +54,7 @@ fn arm_timer_at(bytes: &[u8], offset: usize) -> ArmTimer {
 
 /// The Generic Timer Description Table (GTDT, section 5.2.24). `PlatformTimerIter` returns the timers of the
 /// platform out of its bytes.
-#[derive(Clone, Copy)]
+#[derive(Clone, Copy, Debug)]
 pub struct Gtdt {
     /// The header that every table begins with.
     pub header: SdtHeader,

@@ -9,6 +9,7 @@ use crate::base::entries::split_front;
 /// many as Platform Timer Count were taken, or where none begins: if the structures begin before byte 96, if less
 /// than 4 bytes are left, or if a length is less than the least of its type (20 for type 0, 28 for type 1, 4 for
 /// others) or goes past the table's end.
+#[derive(Debug)]
 pub struct TimerStructureIter<'a> {
     rest: &'a [u8],
     left: u32,

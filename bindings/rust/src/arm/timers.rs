@@ -10,7 +10,8 @@ use crate::base::model::{Polarity, TriggerMode};
 use readings::watchdog_at;
 
 /// GT Block: a block of timers in memory (section 5.2.24.1.1).
-#[derive(Clone, Copy)]
+#[derive(Clone, Copy, Debug)]
+#[non_exhaustive]
 pub struct GtBlock<'a> {
     /// GT Block Physical address: that of the block's control frame.
     pub address: u64,
@@ -38,7 +39,8 @@ pub struct SbsaWatchdog {
 }
 
 /// A timer of the platform: a Platform Timer Structure of a GTDT (section 5.2.24.1).
-#[derive(Clone, Copy)]
+#[derive(Clone, Copy, Debug)]
+#[non_exhaustive]
 pub enum PlatformTimer<'a> {
     /// GT Block, type 0 (section 5.2.24.1.1).
     GtBlock(GtBlock<'a>),
@@ -116,6 +118,7 @@ impl<'a> PlatformTimer<'a> {
 /// bytes are left, if a length is less than the least of its type (20 for type 0, 28 for type 1, 4 for
 /// others) or goes past the table's end, and at a block that has frames which begin before its byte 20 or
 /// end after its end.
+#[derive(Debug)]
 pub struct PlatformTimerIter<'a> {
     rest: &'a [u8],
     left: u32,

@@ -13,7 +13,7 @@ pub use lookup::{ValidTable, accepted_at, map_own_sdt, map_sdt, map_table, own_v
 use signature::Signature;
 
 /// A type of table (section 5.2.6). A kernel may add types of its own. `kind` is what a lookup checks: the
-/// signature, the least length, and what `validate` means, which is a function of the table's bytes alone.
+/// signature, the least length, and what `validate` and `check_own` mean, which are functions of the table's bytes alone.
 pub trait AcpiTable: PhysicalRecord {
     /// Signature: the four letters that name the table (section 5.2.6).
     const SIGNATURE: Signature;
@@ -25,8 +25,13 @@ pub trait AcpiTable: PhysicalRecord {
     /// Checks the table that this value was read from, by its bytes, and returns the error of `kind.check`. Most
     /// types return `self.header().validate(Self::SIGNATURE, bytes)`, and have an `sdt_kind` of that
     /// signature as their kind. Where a caller gives checks up, `SdtInvalidChecksum`, or `SdtInvalidOemId` and
-    /// `SdtInvalidTableId`, don't count (`accepted_at`), so a type checks what is its own before these.
+    /// `SdtInvalidTableId`, don't count (`accepted_at`). Whatever is checked here after these isn't checked then, so
+    /// what only this type has to pass is in `check_own`.
     fn validate(&self, bytes: &[u8]) -> AcpiResult<()>;
+
+    /// Checks what only tables of this type have to pass, by the table's bytes, after `validate` or what a caller has
+    /// left of it: no policy gives this check up. In Rust it passes unless a type writes it.
+    fn check_own(bytes: &[u8]) -> AcpiResult<()>;
 
     /// What `validate` returns for the record that these bytes mean, if their header is known to have the
     /// names of a table of this type, and a length that is their number. A lookup calls it for each member
@@ -57,6 +62,11 @@ impl<T: SdtTable> AcpiTable for T {
 
     fn validate(&self, bytes: &[u8]) -> AcpiResult<()> {
         self.sdt_header().validate(T::NAME, bytes)
+    }
+
+    #[inline(always)]
+    fn check_own(_bytes: &[u8]) -> AcpiResult<()> {
+        Ok(())
     }
 
     fn validate_rest(bytes: &[u8]) -> AcpiResult<()> {

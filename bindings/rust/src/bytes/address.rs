@@ -8,6 +8,7 @@ use crate::bytes::handler::PhysicalRecord;
 
 /// Address Space ID: the space in which the number of a generic address counts (section 5.2.3.2).
 #[derive(Clone, Copy, Debug, PartialEq, Eq)]
+#[non_exhaustive]
 pub enum AddressSpace {
     /// System Memory, code 0x00: memory, by its physical address.
     SystemMemory,

@@ -5,7 +5,7 @@
 //! a grammar that is a constant it costs what a walk written for that table does.
 
 /// How many bytes a number has.
-#[derive(Clone, Copy)]
+#[derive(Clone, Copy, Debug)]
 pub enum Width {
     /// One byte.
     One,
@@ -16,7 +16,7 @@ pub enum Width {
 }
 
 /// The place of a number in an entry.
-#[derive(Clone, Copy)]
+#[derive(Clone, Copy, Debug)]
 pub struct Place {
     /// How many bytes of the entry are before it.
     pub at: u8,
@@ -25,7 +25,7 @@ pub struct Place {
 }
 
 /// The layout of a table's entries: the places of type and length, and the least lengths.
-#[derive(Clone, Copy)]
+#[derive(Clone, Copy, Debug)]
 pub struct EntryLayout<const KINDS: usize> {
     /// The place of an entry's type.
     pub kind_place: Place,
@@ -38,7 +38,7 @@ pub struct EntryLayout<const KINDS: usize> {
 }
 
 /// A grammar of entries: how a table's bytes are cut into entries.
-#[derive(Clone, Copy)]
+#[derive(Clone, Copy, Debug)]
 pub struct Grammar<const KINDS: usize> {
     /// The layout of each entry.
     pub layout: EntryLayout<KINDS>,

@@ -10,6 +10,7 @@ pub type AcpiResult<T> = Result<T, AcpiError>;
 
 /// Why a call fails. A signature in an error is the one that was requested.
 #[derive(Clone, Copy, Debug, PartialEq, Eq)]
+#[non_exhaustive]
 pub enum AcpiError {
     /// No valid RSDP is in the areas that were searched (section 5.2.5.1).
     NoValidRsdp,
@@ -95,6 +96,7 @@ impl fmt::Display for AcpiError {
 
 /// What is wrong with an entry of a valid MADT, or why a processor isn't woken (section 5.2.12).
 #[derive(Clone, Copy, Debug, PartialEq, Eq)]
+#[non_exhaustive]
 pub enum MadtError {
     /// There is an entry of a type that the model has no place for, or none of the requested type.
     UnexpectedEntry,

@@ -239,7 +239,7 @@ fn hex_char(digit: u8) -> char {
 }
 
 /// A byte, printed as two digits.
-#[derive(Clone, Copy)]
+#[derive(Clone, Copy, Debug)]
 struct HexByte(u8);
 
 impl fmt::Display for HexByte {

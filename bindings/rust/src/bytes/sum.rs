@@ -89,7 +89,7 @@ fn sum_of_words(bytes: &[u8]) -> u8 {
 
 /// What words add up to: the whole words modulo 2^64, and their bytes at even places, each in a lane of 16 bits. What
 /// the whole words have beside the even bytes are the odd ones, so only the even ones are taken out of each word.
-#[derive(Clone, Copy)]
+#[derive(Clone, Copy, Debug)]
 struct WordSums {
     whole: u64,
     even: u64,

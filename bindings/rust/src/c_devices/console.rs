@@ -16,6 +16,6 @@ use shown::console_record;
 pub fn console(source: &Source<'_>) -> Result<Console, Refusal> {
     let memory = Mapped::new(source.regions);
     let spcr = first::<Spcr>(&memory, source)?;
-    let interface = field(spcr.bytes(), 36, 1) as u8; // Interface Type
-    Ok(console_record(&spcr, interface))
+    let interface_type = field(spcr.bytes(), 36, 1) as u8; // Interface Type
+    Ok(console_record(&spcr, interface_type))
 }

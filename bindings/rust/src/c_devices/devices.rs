@@ -70,10 +70,13 @@ pub fn timer(source: &Source<'_>) -> Result<records::PmTimer, Refusal> {
 
 fn timer_record(timer: Option<PmTimer>) -> records::PmTimer {
     match timer {
-        Some(timer) => {
-            records::PmTimer { base: generic_record(&timer.base), present: 1, is_32_bit: timer.supports_32bit as u8 }
-        }
-        None => records::PmTimer::default(),
+        Some(timer) => records::PmTimer {
+            base: generic_record(&timer.base),
+            present: 1,
+            is_32_bit: timer.supports_32bit as u8,
+            reserved: [0; 6],
+        },
+        None => records::PmTimer { base: no_register(), present: 0, is_32_bit: 0, reserved: [0; 6] },
     }
 }
 
@@ -82,10 +85,15 @@ fn timer_record(timer: Option<PmTimer>) -> records::PmTimer {
 pub(crate) fn optional_register(register: AcpiResult<Option<GenericAddress>>) -> Register {
     let (at, present) = match register {
         Ok(Some(at)) => (generic_record(&at), 1),
-        Ok(None) => (records::GenericAddress::default(), 0),
-        Err(_) => (records::GenericAddress::default(), 2),
+        Ok(None) => (no_register(), 0),
+        Err(_) => (no_register(), 2),
     };
-    Register { at, present }
+    Register { at, present, reserved: [0; 7] }
+}
+
+/// The address of a register that there isn't: zeros.
+fn no_register() -> records::GenericAddress {
+    records::GenericAddress { address: 0, space: 0, bit_width: 0, bit_offset: 0, access_size: 0, reserved: [0; 4] }
 }
 
 /// A register, or that its address is an error.
@@ -118,5 +126,6 @@ fn graphic_record(bgrt: &Bgrt) -> BootGraphic {
             ImageType::Bitmap => 0,
             ImageType::Reserved => 1,
         },
+        reserved: [0; 4],
     }
 }

@@ -63,6 +63,7 @@ fn fixed_record(fadt: &FadtView<'_, Mapped<'_>>) -> FixedHardware {
         reset_value: fadt.reset_value(),
         revision: u8_in(table, 8),                  // Revision: FADT Major Version
         minor_revision: field(table, 131, 1) as u8, // FADT Minor Version
+        reserved: [0; 3],
         hypervisor_id: hypervisor_id_in(table),
     }
 }
@@ -84,8 +85,14 @@ fn gpe_record(outcome: AcpiResult<Option<GpeBlock>>) -> records::GpeBlock {
             space: block.space.code(),
             byte_length: block.byte_length,
             present: 1,
+            reserved: [0; 5],
         },
-        Ok(None) => records::GpeBlock::default(),
-        Err(_) => records::GpeBlock { present: 2, ..records::GpeBlock::default() },
+        Ok(None) => no_gpe(0),
+        Err(_) => no_gpe(2),
     }
+}
+
+/// No block of general purpose events: 0 if there is none, or 2 if its address is an error.
+fn no_gpe(present: u8) -> records::GpeBlock {
+    records::GpeBlock { address: 0, space: 0, byte_length: 0, present, reserved: [0; 5] }
 }

@@ -55,7 +55,7 @@ pub fn dmar_flags(source: &Source<'_>) -> Result<DmarFlags, Refusal> {
 }
 
 fn dmar_flags_record(dmar: &Dmar) -> DmarFlags {
-    DmarFlags { address_bits: dmar.address_bits(), flags: dmar.flags }
+    DmarFlags { address_bits: dmar.address_bits(), flags: dmar.flags, reserved: 0 }
 }
 
 /// Lists the memory that the first valid DMAR reserves for a device (section 8.4), which is named as for `dmar_unit`.

@@ -2,5 +2,5 @@
 //! What a walk's items are read by, where that is nothing but themselves.
 
 /// Nothing. An impl of another crate's trait has to name a type of this crate, so it isn't `()`.
-#[derive(Clone, Copy)]
+#[derive(Clone, Copy, Debug)]
 pub(crate) struct Nothing;

@@ -75,5 +75,5 @@ pub fn localities(source: &Source<'_>) -> Result<Localities, Refusal> {
     let memory = Mapped::new(source.regions);
     let slit = first::<Slit>(&memory, source)?;
     let distances = Distances::over(slit.bytes());
-    Ok(Localities { localities: distances.localities(), is_sane: distances.is_sane() as u8 })
+    Ok(Localities { localities: distances.localities(), is_sane: distances.is_sane() as u8, reserved: [0; 7] })
 }

@@ -63,6 +63,7 @@ impl Listing<(), EcamRange> for McfgEntryIter<'_> {
             length: range.length,
             segment_group: entry.pci_segment_group,
             present: found.is_some() as u8,
+            reserved: [0; 5],
         })
     }
 }

@@ -97,6 +97,7 @@ fn plan_record(plan: crate::sleep::Plan) -> Plan {
     Plan {
         steps: [step_record(plan.first), step_record(plan.second), none, none, none, none, none, none],
         count: plan.first.is_some() as u32 + plan.second.is_some() as u32,
+        reserved: [0; 4],
     }
 }
 
@@ -109,8 +110,9 @@ fn step_record(step: Option<PlanStep>) -> Step {
             value: step.value,
             width: step.width,
             kind: kind_code(step.kind),
+            reserved: [0; 6],
         },
-        None => Step { at: optional_register(Ok(None)), mask: 0, value: 0, width: 0, kind: 0 },
+        None => Step { at: optional_register(Ok(None)), mask: 0, value: 0, width: 0, kind: 0, reserved: [0; 6] },
     }
 }
 

@@ -16,6 +16,8 @@ pub struct GenericAddress {
     pub bit_offset: u8,
     /// Access size: 0 unspecified, 1 one byte, 2 two, 3 four, 4 eight.
     pub access_size: u8,
+    /// Reserved: 0.
+    pub reserved: [u8; 4],
 }
 
 /// `struct zacpi_register`.
@@ -26,11 +28,14 @@ pub struct Register {
     pub at: GenericAddress,
     /// Present: 0: none. 1: it is `at`. 2: its address is an error.
     pub present: u8,
+    /// Reserved: 0.
+    pub reserved: [u8; 7],
 }
 
 /// `struct zacpi_pm_timer`.
 #[repr(C)]
 #[derive(Clone, Copy, Debug, Default, PartialEq, Eq)]
+#[non_exhaustive]
 pub struct PmTimer {
     /// X_PM_TMR_BLK or PM_TMR_BLK.
     pub base: GenericAddress,
@@ -38,6 +43,8 @@ pub struct PmTimer {
     pub present: u8,
     /// TMR_VAL_EXT: it counts in 32 bits, else in 24.
     pub is_32_bit: u8,
+    /// Reserved: 0.
+    pub reserved: [u8; 6],
 }
 
 /// `struct zacpi_hpet_info`.
@@ -73,6 +80,8 @@ pub struct BootGraphic {
     pub displayed: u8,
     /// Image type: 0: a bitmap. 1: another code, which is reserved.
     pub image_type: u8,
+    /// Reserved: 0.
+    pub reserved: [u8; 4],
 }
 
 /// `struct zacpi_pci_region`.
@@ -87,4 +96,6 @@ pub struct PciRegion {
     pub first_bus: u8,
     /// End Bus Number.
     pub last_bus: u8,
+    /// Reserved: 0.
+    pub reserved: [u8; 4],
 }

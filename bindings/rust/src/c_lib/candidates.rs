@@ -1,21 +1,21 @@
 // Made by scripts/erase of crates/acpi_c_lib/src/candidates.rt, where it is proved.
 //! What isn't mapped of the RSDPs that a search comes to (section 5.2.5.1): each is tried as the search tries it.
 
-use crate::acpi::rsdp::{Rsdp, bios_areas, map_rsdp};
+use crate::acpi::rsdp::{Rsdp, bios_areas, map_accepted_rsdp};
 use crate::acpi::{AcpiError, AcpiHandler, AddressRange, PhysicalMapping};
 use crate::c_lib::missing::{is_lent, put_pair, range, second_range};
 use crate::c_lib::opening::{ebda, ebda_segment};
 use crate::c_lib::records::{Range, Source};
 
 /// Candidates of a search: the address of the first, and how many there are, 16 bytes apart.
-#[derive(Clone, Copy)]
+#[derive(Clone, Copy, Debug)]
 struct Candidates {
     first: u64,
     count: u64,
 }
 
 /// The candidates of a search's two areas: it comes to the second's if none of the first's is valid.
-#[derive(Clone, Copy)]
+#[derive(Clone, Copy, Debug)]
 struct Areas {
     first: Candidates,
     second: Candidates,
@@ -24,11 +24,11 @@ struct Areas {
 /// Writes what isn't mapped of the candidates of a source's search, and returns the number of these ranges.
 pub(crate) fn candidate_missing_ranges<H: AcpiHandler>(handler: &H, source: &Source<'_>, out: &mut [Range]) -> usize {
     let areas = areas_of(handler, source);
-    let (count, is_found) = walk(handler, areas.first, out, 0);
+    let (count, is_found) = walk(handler, areas.first, source.accept, out, 0);
     if is_found {
         return count;
     }
-    walk(handler, areas.second, out, count).0
+    walk(handler, areas.second, source.accept, out, count).0
 }
 
 /// The candidates of a source's search. Another start has none.
@@ -69,14 +69,20 @@ fn stretch(area: AddressRange) -> Candidates {
     Candidates { first: area.address, count: u64::saturating_sub(area.length, 4) / 16 }
 }
 
-/// Writes what isn't mapped of candidates from an index on, up to the first valid one. Returns the next index, and
-/// whether one is valid.
-fn walk<H: AcpiHandler>(handler: &H, candidates: Candidates, out: &mut [Range], from: usize) -> (usize, bool) {
+/// Writes what isn't mapped of candidates from an index on, up to the first that the bits of `accept` accept. Returns the next index, and
+/// whether there is one.
+fn walk<H: AcpiHandler>(
+    handler: &H,
+    candidates: Candidates,
+    accept: u32,
+    out: &mut [Range],
+    from: usize,
+) -> (usize, bool) {
     let mut next = from;
     let mut address = candidates.first;
     let mut left = candidates.count;
     while left > 0 {
-        match try_candidate(handler, address) {
+        match try_candidate(handler, address, accept) {
             Ok(()) => return (next, true),
             Err(missing_range) => next = put_pair((missing_range, None), out, next),
         }
@@ -86,18 +92,18 @@ fn walk<H: AcpiHandler>(handler: &H, candidates: Candidates, out: &mut [Range], 
     (next, false)
 }
 
-/// Tries a candidate: whether it is valid, or else the range that its Length covers, if its first 36 bytes are mapped
+/// Tries a candidate: whether it is accepted, or else the range that its Length covers, if its first 36 bytes are mapped
 /// and that range isn't.
-fn try_candidate<H: AcpiHandler>(handler: &H, address: u64) -> Result<(), Option<Range>> {
-    match map_rsdp(handler, address) {
+fn try_candidate<H: AcpiHandler>(handler: &H, address: u64, accept: u32) -> Result<(), Option<Range>> {
+    match map_accepted_rsdp(handler, address, accept) {
         Ok(_rsdp) => Ok(()),
-        Err(AcpiError::MapFailed) => Err(length_missing_range(handler, address)),
+        Err(AcpiError::MapFailed) => Err(length_missing_range(handler, address, accept)),
         Err(_) => Err(None),
     }
 }
 
 /// Of an RSDP that isn't mapped, the range that its Length covers, if its first 36 bytes are mapped.
-fn length_missing_range<H: AcpiHandler>(handler: &H, address: u64) -> Option<Range> {
+fn length_missing_range<H: AcpiHandler>(handler: &H, address: u64, accept: u32) -> Option<Range> {
     let Ok(rsdp) = PhysicalMapping::<'_, H, Rsdp>::map(handler, address, 36) else {
         return None;
     };

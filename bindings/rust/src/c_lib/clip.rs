@@ -7,13 +7,13 @@ use crate::c_lib::records::Range;
 use crate::c_lib::refusal::Refusal;
 
 /// Ranges that each begin where the one before ends, or after it: a place is searched by halves.
-#[derive(Clone, Copy)]
+#[derive(Clone, Copy, Debug)]
 struct Ranges<'k> {
     all: &'k [Range],
 }
 
 /// The ranges that are wanted, those to leave out, and the window.
-#[derive(Clone, Copy)]
+#[derive(Clone, Copy, Debug)]
 struct Wanted<'k> {
     ranges: Ranges<'k>,
     without: Ranges<'k>,

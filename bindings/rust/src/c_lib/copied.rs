@@ -1,21 +1,22 @@
 // Made by scripts/erase of crates/acpi_c_lib/src/copied.rt, where it is proved.
 //! A start by a copy of the RSDP, as a loader passes it.
 
-use crate::acpi::rsdp::{Rsdp, map_rsdp};
-use crate::base::bytes::u8_in;
+use crate::acpi::rsdp::{Rsdp, map_accepted_rsdp, read_accepted};
+use crate::base::bytes::{has_bit, u8_in};
 use crate::c_lib::records::Source;
 use crate::c_lib::refusal::Refusal;
 use crate::c_lib::regions::{Mapped, Region};
 
-/// A source with a start at the root table that a copy of the RSDP points to (section 5.2.5.3). A copy of revision 0
-/// has at least 20 bytes, and another all bytes of its Length.
+/// A source with a start at the root table that a copy of the RSDP points to (section 5.2.5.3). A copy of revision 0, and
+/// one that the source accepts by its first 20 bytes, has at least these, and another all bytes of its Length.
 ///
 /// Fails as a start at an RSDP does, with `MapFailed` if the copy has too few bytes.
 pub fn start_of_rsdp<'k>(copy: &[u8], source: Source<'k>) -> Result<Source<'k>, Refusal> {
     let mut first = [0; 36];
-    let regions = [Region { address: 0, bytes: padded(copy, &mut first) }];
+    let regions = [Region { address: 0, bytes: padded(copy, source.accept, &mut first) }];
     let memory = Mapped::new(&regions)?;
-    let rsdp = map_rsdp(&memory, 0)?;
+    let rsdp = map_accepted_rsdp(&memory, 0, source.accept)?;
+    let rsdp = read_accepted(&memory, &rsdp, source.accept);
     Ok(started_by(source, &rsdp))
 }
 
@@ -28,9 +29,17 @@ fn started_by<'k>(source: Source<'k>, rsdp: &Rsdp) -> Source<'k> {
     Source { regions: source.regions, address, start, accept: source.accept }
 }
 
-/// The bytes of the copy; if its revision is 0, its 20 bytes and zeros, since it ends there.
-fn padded<'a>(copy: &'a [u8], zeros: &'a mut [u8; 36]) -> &'a [u8] {
-    if copy.len() < 20 || u8_in(copy, 15) != 0 {
+/// Whether a copy of at least 20 bytes ends after these: its revision is 0, or by the bits of `accept` they are enough and
+/// it has no 36.
+fn ends_early(copy: &[u8], accept: u32) -> bool {
+    let revision = u8_in(copy, 15);
+    let is_first_enough = has_bit(accept as u64, 4) || (has_bit(accept as u64, 3) && revision == 1);
+    revision == 0 || (copy.len() < 36 && is_first_enough)
+}
+
+/// The bytes of the copy; if it ends after 20, these and zeros.
+fn padded<'a>(copy: &'a [u8], accept: u32, zeros: &'a mut [u8; 36]) -> &'a [u8] {
+    if copy.len() < 20 || !ends_early(copy, accept) {
         return copy;
     }
     first_part(copy, zeros)

@@ -6,6 +6,7 @@ use crate::c_lib::refusal::Refusal;
 /// An entry at fault, or the malformed front that ends a table's entries.
 #[repr(C)]
 #[derive(Clone, Copy, Debug, Default, PartialEq, Eq)]
+#[non_exhaustive]
 pub struct EntryFault {
     /// Address: of the entry, or where none begins.
     pub address: u64,
@@ -13,9 +14,11 @@ pub struct EntryFault {
     pub status: u32,
     /// Type of the entry, or there; 0 at the table's end.
     pub entry_type: u16,
+    /// Reserved: 0.
+    pub reserved: [u8; 2],
 }
 
 /// An entry of a type, at an address, with its error.
 pub fn entry_fault(address: u64, entry_type: u16, error: Refusal) -> EntryFault {
-    EntryFault { address, entry_type, status: error.code() }
+    EntryFault { address, entry_type, status: error.code(), reserved: [0; 2] }
 }

@@ -64,7 +64,7 @@ fn accepted_fault<H: AcpiHandler>(handler: &H, address: u64, signature: Signatur
 
 /// That the table at an address isn't valid, or isn't accepted.
 fn fault_record(accepted: u8, address: u64, error: AcpiError) -> Fault {
-    Fault { address, status: acpi_code(error), accepted }
+    Fault { address, status: acpi_code(error), accepted, reserved: [0; 3] }
 }
 
 /// Whether a lookup of a signature takes the table at an address, or why it passes it over.

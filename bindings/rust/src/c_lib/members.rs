@@ -6,7 +6,7 @@ use crate::acpi::{AcpiHandler, PhysicalMapping, PhysicalRecord, Pointers};
 use crate::base::table::own_valid_by;
 use crate::c_lib::lists::{Listing, fill};
 use crate::c_lib::opening::open;
-use crate::c_lib::records::{Member, Source, Table};
+use crate::c_lib::records::{Member, Signature, Source, Table};
 use crate::c_lib::refusal::{Refusal, acpi_code};
 use crate::c_lib::regions::Mapped;
 use crate::c_lib::tables::entry;
@@ -29,8 +29,8 @@ impl<'h, H: AcpiHandler> Listing<(&'h H, u32), Member> for Pointers<'_> {
 fn member_at<H: AcpiHandler>(handler: &H, accept: u32, address: u64) -> Member {
     let status = member_status(handler, accept, address);
     match PhysicalMapping::<'_, H, SdtHeader>::map(handler, address, SdtHeader::MIN_LENGTH) {
-        Ok(head) => Member { table: entry(&head), status, has_header: 1 },
-        Err(_) => Member { table: unmapped(address), status, has_header: 0 },
+        Ok(head) => Member { table: entry(&head), status, has_header: 1, reserved: [0; 3] },
+        Err(_) => Member { table: unmapped(address), status, has_header: 0, reserved: [0; 3] },
     }
 }
 
@@ -50,12 +50,14 @@ fn unmapped(address: u64) -> Table {
     Table {
         address,
         length: 0,
-        signature: [0; 4],
+        signature: Signature { letters: [0; 4] },
         revision: 0,
         oem_id: [0; 6],
         oem_table_id: [0; 8],
+        reserved_1: 0,
         oem_revision: 0,
         creator_id: [0; 4],
         creator_revision: 0,
+        reserved_2: [0; 4],
     }
 }

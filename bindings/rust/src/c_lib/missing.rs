@@ -53,6 +53,7 @@ pub(crate) fn fill_with<C, W: Listing<C, Range>>(
 }
 
 /// The memory in which tables are looked up, and what is accepted of them, to list what isn't mapped.
+#[derive(Debug)]
 struct Unmapped<'h, H: AcpiHandler> {
     handler: &'h H,
     accept: u32,
@@ -148,15 +149,15 @@ fn opening_missing_range<H: AcpiHandler>(handler: &H, source: &Source<'_>) -> Op
 /// (sections 5.2.5.1 and 5.2.5.3).
 fn rsdp_missing_range<H: AcpiHandler>(handler: &H, source: &Source<'_>) -> Option<Range> {
     match source.start {
-        0 => Some(own_missing_range(handler, source.address)),
-        3 => Some(search_missing_range(handler)),
+        0 => Some(own_missing_range(handler, source.address, source.accept)),
+        3 => Some(search_missing_range(handler, source.accept)),
         _ => None,
     }
 }
 
 /// The unmapped range because of which the RSDP at an address fails: its first 36 bytes, or the bytes of its Length
 /// (section 5.2.5.3).
-fn own_missing_range<H: AcpiHandler>(handler: &H, address: u64) -> Range {
+fn own_missing_range<H: AcpiHandler>(handler: &H, address: u64, accept: u32) -> Range {
     let length = match PhysicalMapping::<'_, H, Rsdp>::map(handler, address, 36) {
         Ok(rsdp) => rsdp.length(),
         Err(_) => None,
@@ -167,7 +168,7 @@ fn own_missing_range<H: AcpiHandler>(handler: &H, address: u64) -> Range {
 /// The unmapped range because of which the search fails: the word at 0x40e, which is the segment of the extended BIOS
 /// data area (EBDA), or the first area, 0xe0000..0x100000, or the second one, each with 16 bytes after it (section
 /// 5.2.5.1).
-fn search_missing_range<H: AcpiHandler>(handler: &H) -> Range {
+fn search_missing_range<H: AcpiHandler>(handler: &H, accept: u32) -> Range {
     let Ok(word) = PhysicalMapping::<'_, H, u16>::map(handler, 0x40e, 2) else {
         return range(0x40e, 2);
     };

@@ -3,7 +3,7 @@
 
 use crate::acpi::fadt::{Fadt, FadtView};
 use crate::acpi::root::{RootKind, RootPointer};
-use crate::acpi::rsdp::{Rsdp, bios_areas, map_rsdp};
+use crate::acpi::rsdp::{Rsdp, bios_areas, map_accepted_rsdp, read_accepted};
 use crate::acpi::sdt::Signature;
 use crate::acpi::{Accept, AcpiHandler, AcpiResult, AcpiTables, PhysicalMapping, PhysicalRecord, SdtTable};
 use crate::base::table::ValidTable;
@@ -46,17 +46,19 @@ pub(crate) fn root_pointer<H: AcpiHandler>(
         1 => (0, RootKind::Rsdt),
         2 => (2, RootKind::Xsdt),
         _ => {
-            let rsdp = find_rsdp(handler, source)?;
-            return Ok((rsdp.get().root(), Some(place_of(&rsdp))));
+            let found = find_rsdp(handler, source)?;
+            let rsdp = read_accepted(handler, &found, source.accept);
+            let place = (found.physical_start(), rsdp.length().unwrap_or(20));
+            return Ok((rsdp.root(), Some(place)));
         }
     };
     let pointer = RootPointer { revision, kind, address: source.address };
     Ok((pointer, None))
 }
 
-/// Fails with `UnknownPolicy` if `accept` of a source has other bits than the two that there are.
+/// Fails with `UnknownPolicy` if `accept` of a source has other bits than the five that there are.
 pub(crate) fn check_policy(source: &Source<'_>) -> Result<(), Refusal> {
-    if source.accept > 3 {
+    if source.accept > 31 {
         return Err(Refusal::UnknownPolicy);
     }
     Ok(())
@@ -70,17 +72,12 @@ pub(crate) fn find_rsdp<'h, H: AcpiHandler>(
     source: &Source<'_>,
 ) -> Result<PhysicalMapping<'h, H, Rsdp>, Refusal> {
     let rsdp = match source.start {
-        0 => map_rsdp(handler, source.address)?,
-        3 => Rsdp::search_for_on_bios(handler)?,
-        4 => Rsdp::search_in(handler, &bios_areas(ebda(handler)))?,
+        0 => map_accepted_rsdp(handler, source.address, source.accept)?,
+        3 => Rsdp::search_for_on_bios_accepting(handler, source.accept)?,
+        4 => Rsdp::search_in_accepting(handler, &bios_areas(ebda(handler)), source.accept)?,
         _ => return Err(Refusal::UnknownStart),
     };
     Ok(rsdp)
-}
-
-/// The address and the length of an RSDP.
-fn place_of<H: AcpiHandler>(rsdp: &PhysicalMapping<'_, H, Rsdp>) -> (u64, u32) {
-    (rsdp.physical_start(), rsdp.length().unwrap_or(20))
 }
 
 /// The segment of the extended BIOS data area (EBDA), which is the word at 0x40e (section 5.2.5.1).
@@ -159,7 +156,9 @@ pub fn root(source: &Source<'_>) -> Result<Root, Refusal> {
         length: tables.root_length(),
         revision: tables.revision(),
         pointer_width: tables.root_kind().width() as u8,
+        reserved_1: [0; 2],
         rsdp_address,
         rsdp_length,
+        reserved_2: [0; 4],
     })
 }

@@ -32,6 +32,7 @@ pub struct Source<'a> {
 /// `struct zacpi_place`.
 #[repr(C)]
 #[derive(Clone, Copy, Debug, Default, PartialEq, Eq)]
+#[non_exhaustive]
 pub struct Place {
     /// Which region it is in, from 0 on.
     pub region: usize,
@@ -50,6 +51,7 @@ pub struct Signature {
 /// `struct zacpi_root`.
 #[repr(C)]
 #[derive(Clone, Copy, Debug, Default, PartialEq, Eq)]
+#[non_exhaustive]
 pub struct Root {
     /// The physical address.
     pub address: u64,
@@ -59,15 +61,20 @@ pub struct Root {
     pub revision: u8,
     /// Pointer width: 4 for an RSDT, 8 for an XSDT.
     pub pointer_width: u8,
+    /// Reserved 1: 0.
+    pub reserved_1: [u8; 2],
     /// RSDP address: 0 if opened at a root table, and so is the length.
     pub rsdp_address: u64,
     /// Length; at revision 0, which lacks it, 20, though 36 bytes have to be mapped there too.
     pub rsdp_length: u32,
+    /// Reserved 2: 0.
+    pub reserved_2: [u8; 4],
 }
 
 /// `struct zacpi_rsdp`.
 #[repr(C)]
 #[derive(Clone, Copy, Debug, Default, PartialEq, Eq)]
+#[non_exhaustive]
 pub struct Rsdp {
     /// The physical address.
     pub address: u64,
@@ -81,35 +88,43 @@ pub struct Rsdp {
     pub revision: u8,
     /// OEMID.
     pub oem_id: [u8; 6],
+    /// Reserved: 0.
+    pub reserved: u8,
 }
 
 /// `struct zacpi_table`.
 #[repr(C)]
 #[derive(Clone, Copy, Debug, Default, PartialEq, Eq)]
+#[non_exhaustive]
 pub struct Table {
     /// The physical address.
     pub address: u64,
     /// The number of bytes.
     pub length: u32,
     /// Signature.
-    pub signature: [u8; 4],
+    pub signature: Signature,
     /// Revision.
     pub revision: u8,
     /// OEMID.
     pub oem_id: [u8; 6],
     /// OEM Table ID.
     pub oem_table_id: [u8; 8],
+    /// Reserved 1: 0.
+    pub reserved_1: u8,
     /// OEM Revision.
     pub oem_revision: u32,
     /// Creator ID: of the program that wrote the table.
     pub creator_id: [u8; 4],
     /// Creator Revision: of the program that wrote the table.
     pub creator_revision: u32,
+    /// Reserved 2: 0.
+    pub reserved_2: [u8; 4],
 }
 
 /// `struct zacpi_member`.
 #[repr(C)]
 #[derive(Clone, Copy, Debug, Default, PartialEq, Eq)]
+#[non_exhaustive]
 pub struct Member {
     /// Table: zeros but for the address unless has_header.
     pub table: Table,
@@ -117,11 +132,14 @@ pub struct Member {
     pub status: u32,
     /// Has header: 0: the 36 bytes of a header aren't mapped there.
     pub has_header: u8,
+    /// Reserved: 0.
+    pub reserved: [u8; 3],
 }
 
 /// `struct zacpi_fault`.
 #[repr(C)]
 #[derive(Clone, Copy, Debug, Default, PartialEq, Eq)]
+#[non_exhaustive]
 pub struct Fault {
     /// The physical address.
     pub address: u64,
@@ -130,6 +148,8 @@ pub struct Fault {
     pub status: u32,
     /// Accepted: 1: it isn't skipped, thanks to `accept` of the source.
     pub accepted: u8,
+    /// Reserved: 0.
+    pub reserved: [u8; 3],
 }
 
 /// `struct zacpi_walk`.
@@ -151,6 +171,7 @@ pub struct Walk {
 /// `struct zacpi_entry`.
 #[repr(C)]
 #[derive(Clone, Copy, Debug, Default, PartialEq, Eq)]
+#[non_exhaustive]
 pub struct Entry {
     /// The physical address.
     pub address: u64,
@@ -163,6 +184,7 @@ pub struct Entry {
 /// `struct zacpi_aml_table`.
 #[repr(C)]
 #[derive(Clone, Copy, Debug, Default, PartialEq, Eq)]
+#[non_exhaustive]
 pub struct AmlTable {
     /// Address: of the byte after the table's header.
     pub address: u64,
@@ -170,6 +192,8 @@ pub struct AmlTable {
     pub length: u32,
     /// Revision: of a DSDT: below 2 integers have 32 bits, else 64.
     pub revision: u8,
+    /// Reserved: 0.
+    pub reserved: [u8; 3],
     /// The physical address of the table.
     pub table_address: u64,
 }
@@ -177,6 +201,7 @@ pub struct AmlTable {
 /// `struct zacpi_facs`.
 #[repr(C)]
 #[derive(Clone, Copy, Debug, Default, PartialEq, Eq)]
+#[non_exhaustive]
 pub struct Facs {
     /// The physical address.
     pub address: u64,
@@ -192,4 +217,6 @@ pub struct Facs {
     pub flags: u32,
     /// Version.
     pub version: u8,
+    /// Reserved: 0.
+    pub reserved: [u8; 7],
 }

@@ -12,6 +12,7 @@ use codes::{madt_code, own_acpi_code, own_code, writer_code};
 
 /// Why a call fails. `enum zacpi_status_code` of `include/zacpi.h` has what each error means.
 #[derive(Clone, Copy, Debug, PartialEq, Eq)]
+#[non_exhaustive]
 pub enum Refusal {
     /// A region begins below the end of the one before it.
     RegionsNotAscending,

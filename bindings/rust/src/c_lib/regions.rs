@@ -94,7 +94,7 @@ fn check(regions: &[Region<'_>]) -> Result<(), Refusal> {
 }
 
 /// Regions that are a memory.
-#[derive(Clone, Copy)]
+#[derive(Clone, Copy, Debug)]
 pub struct Mapped<'k> {
     regions: &'k [Region<'k>],
 }

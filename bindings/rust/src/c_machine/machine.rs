@@ -16,7 +16,8 @@ use crate::write::{
 };
 
 /// What a table is to contain that is written from a record of C's.
-#[derive(Clone, Copy)]
+#[derive(Clone, Copy, Debug)]
+#[non_exhaustive]
 pub enum Contents<'a> {
     /// A FADT.
     Fadt(FixedHardware),

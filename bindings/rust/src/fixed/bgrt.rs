@@ -54,6 +54,7 @@ impl Bgrt {
 
 /// Image Type: the format of a boot image (section 5.2.22). `Bitmap` is ordered before `Reserved`.
 #[derive(Clone, Copy, Debug, PartialEq, Eq, PartialOrd, Ord, Hash)]
+#[non_exhaustive]
 pub enum ImageType {
     /// Bitmap, code 0: a file in the format BMP.
     Bitmap,

@@ -19,6 +19,7 @@ pub use view::FadtView;
 
 /// Preferred_PM_Profile: the machine's purpose (ACPI 6.4, section 5.2.9).
 #[derive(Clone, Copy, Debug, PartialEq, Eq)]
+#[non_exhaustive]
 pub enum PowerProfile {
     /// Unspecified, code 0: the firmware leaves it open.
     Unspecified,

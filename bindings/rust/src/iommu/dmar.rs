@@ -13,12 +13,14 @@ use crate::base::bytes::has_bit;
 use crate::base::sdt::SdtHeader;
 pub use fields::{Andd, Atsr, DmarFields, Drhd, Rhsa, Rmrr, Satc, Sidp};
 pub use reserved::ReservedIter;
-pub use scope::{DeviceScope, DeviceScopeIter, Hop, HopIter};
-pub use structure::{DmarStructure, DmarStructureIter};
+pub use scope::{DeviceScope, DeviceScopeIter, Hop, HopIter, Scopes};
+pub use structure::{DmarStructure, DmarStructureIter, Structures};
 pub use units::{DmarUnits, UnitSource};
 
 /// The DMA Remapping Reporting Structure (DMAR, section 8.1). Its structures are after 48 fixed bytes; `DmarUnits`
 /// reads them.
+#[derive(Debug)]
+#[non_exhaustive]
 pub struct Dmar {
     /// The header that every table begins with.
     pub header: SdtHeader,

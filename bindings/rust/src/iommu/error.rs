@@ -8,6 +8,7 @@ pub type IommuResult<T> = Result<T, IommuError>;
 
 /// Why a call of this crate fails.
 #[derive(Clone, Copy, Debug, PartialEq, Eq)]
+#[non_exhaustive]
 pub enum IommuError {
     /// The structures of a table (of an IVRS: its blocks) end before its bytes do, or the device scopes or entries of
     /// one end before it does: bytes are left in which none begins. The length there is less than the least of its type

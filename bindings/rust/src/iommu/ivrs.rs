@@ -8,12 +8,14 @@ mod entry;
 mod readings;
 
 use crate::base::sdt::SdtHeader;
-pub use block::{Ivhd, Ivmd, IvrsBlock, IvrsBlockIter, IvrsFields};
+pub use block::{Blocks, Ivhd, Ivmd, IvrsBlock, IvrsBlockIter, IvrsFields};
 pub use blocks::{BestBlockIter, DeviceUnit, IvrsBlocks, MemoryIter};
-pub use entry::{DeviceEntry, DeviceEntryIter, SpecialDevice};
+pub use entry::{DeviceEntry, DeviceEntryIter, Entries, SpecialDevice};
 
 /// The I/O Virtualization Reporting Structure (IVRS, section 5.2). Its blocks are after 48 fixed bytes; `IvrsBlocks`
 /// reads them.
+#[derive(Debug)]
+#[non_exhaustive]
 pub struct Ivrs {
     /// The header that every table begins with.
     pub header: SdtHeader,

@@ -40,7 +40,7 @@ fn split<'a, K: PieceKind<'a>>(bytes: &'a [u8]) -> Option<(&'a [u8], &'a [u8])> 
 }
 
 /// The pieces of bytes, in order. It ends at the end of the bytes, or where no piece begins.
-#[derive(Clone, Copy)]
+#[derive(Clone, Copy, Debug)]
 pub struct PieceIter<'a, K> {
     rest: &'a [u8],
     ended: bool,

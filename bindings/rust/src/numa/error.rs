@@ -10,6 +10,7 @@ pub type NumaResult<T> = Result<T, NumaError>;
 
 /// Why a call of this crate fails.
 #[derive(Clone, Copy, Debug, PartialEq, Eq)]
+#[non_exhaustive]
 pub enum NumaError {
     /// The lookup of the table fails, with `TableMissing`, or memory runs out, with `AllocError`.
     Acpi(AcpiError),

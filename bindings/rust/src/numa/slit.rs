@@ -8,6 +8,8 @@ use crate::base::sdt::SdtHeader;
 
 /// The System Locality Information Table (SLIT, section 5.2.17). After these fields it has a byte for each
 /// pair of localities, which `Distances` reads.
+#[derive(Debug)]
+#[non_exhaustive]
 pub struct Slit {
     /// The header that every table begins with.
     pub header: SdtHeader,
@@ -17,7 +19,7 @@ pub struct Slit {
 }
 
 /// The distances in a SLIT's bytes (section 5.2.17). It needs no handler.
-#[derive(Clone, Copy)]
+#[derive(Clone, Copy, Debug)]
 pub struct Distances<'a> {
     table: &'a [u8],
 }

@@ -20,6 +20,8 @@ pub use walk::SratEntryIter;
 
 /// The System Resource Affinity Table (SRAT, section 5.2.16). Its entries are after 48 fixed bytes;
 /// `Domains` reads them.
+#[derive(Debug)]
+#[non_exhaustive]
 pub struct Srat {
     /// The header that every table begins with.
     pub header: SdtHeader,

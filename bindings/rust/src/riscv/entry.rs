@@ -25,6 +25,8 @@ pub struct Rintc {
     pub imsic_size: u32,
     /// Version: 1.
     pub version: u8,
+    /// 0: no byte of the record is padding.
+    pub reserved: [u8; 7],
 }
 
 /// Incoming MSI Controller (IMSIC), type 0x19: what the IMSICs of all harts have in common.
@@ -47,6 +49,8 @@ pub struct Imsic {
     pub group_index_shift: u8,
     /// Version: 1.
     pub version: u8,
+    /// 0: no byte of the record is padding.
+    pub reserved: [u8; 3],
 }
 
 /// Advanced Platform Level Interrupt Controller (APLIC), type 0x1a.
@@ -71,6 +75,8 @@ pub struct Aplic {
     pub id: u8,
     /// Version: 1.
     pub version: u8,
+    /// 0: no byte of the record is padding.
+    pub reserved: [u8; 6],
 }
 
 /// Platform Level Interrupt Controller (PLIC), type 0x1b.
@@ -95,10 +101,13 @@ pub struct Plic {
     pub id: u8,
     /// Version: 1.
     pub version: u8,
+    /// 0: no byte of the record is padding.
+    pub reserved: [u8; 6],
 }
 
 /// An entry of a MADT that describes a RISC-V machine, with its fields.
 #[derive(Clone, Copy, Debug)]
+#[non_exhaustive]
 pub enum RiscvEntry {
     /// RISC-V Interrupt Controller, type 0x18.
     Rintc(Rintc),

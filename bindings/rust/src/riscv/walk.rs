@@ -9,6 +9,7 @@ use crate::riscv::entry::RiscvEntry;
 
 /// The entries of types 0x18 to 0x1b of a MADT, in order (section 5.2.12). Entries of other types, and those with fewer
 /// bytes than their type, are skipped by their length. It ends at the table's end, or where no entry begins.
+#[derive(Debug)]
 pub struct RiscvEntryIter<'a> {
     rest: &'a [u8],
 }

@@ -20,7 +20,7 @@ fn integer_width(lead: u8) -> Option<usize> {
 }
 
 /// An integer constant.
-#[derive(Clone, Copy)]
+#[derive(Clone, Copy, Debug)]
 pub(crate) struct Integer {
     /// Its value.
     pub(crate) value: u64,

@@ -33,7 +33,8 @@ fn package_size(aml: &[u8], at: usize, lead: u8) -> usize {
 }
 
 /// What a PkgLength is before.
-#[derive(Clone, Copy)]
+#[derive(Clone, Copy, Debug)]
+#[non_exhaustive]
 pub struct Block {
     /// The offset of the first byte after the PkgLength.
     pub start: usize,

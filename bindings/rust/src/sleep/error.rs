@@ -6,6 +6,7 @@ use core::fmt;
 
 /// Why a walk along AML ends. Each has the offset in the AML where it ended.
 #[derive(Clone, Copy, Debug, PartialEq, Eq)]
+#[non_exhaustive]
 pub enum AmlError {
     /// The block ends before the byte, name, text or number that begins here.
     PastEnd(usize),
@@ -35,6 +36,7 @@ impl fmt::Display for AmlError {
 
 /// Why the tables of a machine have no result for a sleep state.
 #[derive(Clone, Copy, Debug, PartialEq, Eq)]
+#[non_exhaustive]
 pub enum SleepError {
     /// The state is above 5.
     NoSuchState,
@@ -53,6 +55,7 @@ impl From<AcpiError> for SleepError {
 
 /// Why there is no plan.
 #[derive(Clone, Copy, Debug, PartialEq, Eq)]
+#[non_exhaustive]
 pub enum PlanError {
     /// The FADT has no PM1a_CNT, or on reduced hardware no SLEEP_CONTROL_REG (section 5.2.9).
     NoRegister,

@@ -42,7 +42,7 @@ fn segments_end(aml: &[u8], count: u8, at: usize) -> Result<usize, AmlError> {
 }
 
 /// A name: how many scopes up from the current one, and segments from there.
-#[derive(Clone, Copy)]
+#[derive(Clone, Copy, Debug)]
 pub struct Name {
     /// How many `^` it begins with.
     pub ups: usize,

@@ -5,7 +5,8 @@ use crate::sleep::block::byte_at;
 use crate::sleep::error::AmlError;
 
 /// An opcode.
-#[derive(Clone, Copy)]
+#[derive(Clone, Copy, Debug)]
+#[non_exhaustive]
 pub struct Opcode {
     /// Its number: of an opcode of two bytes, the first is the higher one.
     pub code: u16,

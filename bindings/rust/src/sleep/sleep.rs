@@ -16,6 +16,7 @@ pub struct SleepTypes {
 
 /// What a block of AML contains of a sleep state.
 #[derive(Clone, Copy, Debug, PartialEq, Eq)]
+#[non_exhaustive]
 pub enum SleepAnswer {
     /// It can be entered with these sleep types.
     Types(SleepTypes),

@@ -12,7 +12,7 @@ use crate::sleep::sleep::SleepTypes;
 use crate::sleep::term::{parts_end, parts_of};
 
 /// A place of the walk.
-#[derive(Clone, Copy)]
+#[derive(Clone, Copy, Debug)]
 pub(crate) struct Place {
     /// The offset of the next object.
     pub(crate) at: usize,
@@ -30,7 +30,7 @@ impl Place {
 }
 
 /// What an object leads to.
-#[derive(Clone, Copy)]
+#[derive(Clone, Copy, Debug)]
 pub(crate) enum Step {
     /// It is the state's name, and has these sleep types.
     Found(SleepTypes),

@@ -13,6 +13,7 @@ use crate::sleep::sleep::{SleepAnswer, sleep_types};
 
 /// A Secondary System Description Table (SSDT, section 5.2.11.2), whose AML is after the header.
 #[derive(Debug)]
+#[non_exhaustive]
 pub struct Ssdt {
     /// The header that every table begins with.
     pub header: SdtHeader,

@@ -7,7 +7,8 @@ use crate::sleep::error::AmlError;
 use crate::sleep::name::{begins_name, name_at};
 
 /// A part of a term.
-#[derive(Clone, Copy)]
+#[derive(Clone, Copy, Debug)]
+#[non_exhaustive]
 pub enum Part {
     /// A name.
     Name,

@@ -2,7 +2,7 @@
 //! What tables contain whose files have only what writes them.
 
 /// The contents of a SLIT (section 5.2.17).
-#[derive(Clone, Copy)]
+#[derive(Clone, Copy, Debug)]
 pub struct SlitContents<'a> {
     /// Number of System Localities.
     pub localities: u64,

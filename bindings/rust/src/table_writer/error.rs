@@ -3,6 +3,7 @@
 
 /// Why a table is not written.
 #[derive(Clone, Copy, Debug, PartialEq, Eq)]
+#[non_exhaustive]
 pub enum WriterError {
     /// A MADT without any processor.
     NoProcessor,

@@ -5,7 +5,8 @@ use crate::table_writer::numbers::{dword, qword, word};
 use crate::table_writer::spelled::{Each, Spelled};
 
 /// A field: a number in a number of bytes, the lowest first, or a number of zeros.
-#[derive(Clone, Copy)]
+#[derive(Clone, Copy, Debug)]
+#[non_exhaustive]
 pub enum Field {
     /// A number in one byte.
     U8(u8),

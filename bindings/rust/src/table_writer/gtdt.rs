@@ -15,7 +15,7 @@ use crate::table_writer::table::{Table, write};
 
 /// A GT Block (section 5.2.24.1.1), in the words of `GtBlock`, as which it is read, or with what is written as its
 /// frames.
-#[derive(Clone, Copy)]
+#[derive(Clone, Copy, Debug)]
 pub struct GtBlockContents<'a, F = GtFrame> {
     /// GT Block Physical address: that of the block's control frame.
     pub address: u64,
@@ -24,7 +24,8 @@ pub struct GtBlockContents<'a, F = GtFrame> {
 }
 
 /// A timer of the platform (section 5.2.24.1), in the words of `PlatformTimer`, as which it is read.
-#[derive(Clone, Copy)]
+#[derive(Clone, Copy, Debug)]
+#[non_exhaustive]
 pub enum PlatformTimerContents<'a, F = GtFrame> {
     /// GT Block.
     GtBlock(GtBlockContents<'a, F>),
@@ -33,7 +34,7 @@ pub enum PlatformTimerContents<'a, F = GtFrame> {
 }
 
 /// What a GTDT is to contain, in the words of `Gtdt`, as which it is read, or with what is written as its timers.
-#[derive(Copy)]
+#[derive(Copy, Debug)]
 pub struct GtdtContents<'a, T = PlatformTimerContents<'a>> {
     /// CntControlBase Physical Address, if there is one.
     pub counter_control_base: Option<u64>,

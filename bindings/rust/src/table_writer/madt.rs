@@ -20,7 +20,7 @@ pub use entries::Fixed;
 use entries::{AddressOverride, Wakeup};
 
 /// A processor that a MADT is to list (sections 5.2.12.2 and 5.2.12.12).
-#[derive(Clone, Copy)]
+#[derive(Clone, Copy, Debug)]
 pub struct MadtProcessor {
     /// ACPI Processor UID.
     pub processor_uid: u32,
@@ -36,7 +36,7 @@ pub struct MadtProcessor {
 }
 
 /// A LINT pin that NMIs are connected to, which a MADT is to list (sections 5.2.12.7 and 5.2.12.13).
-#[derive(Clone, Copy)]
+#[derive(Clone, Copy, Debug)]
 pub struct MadtNmiLine {
     /// The processors whose local APICs it is a pin of.
     pub processor: NmiProcessor,
@@ -50,7 +50,7 @@ pub struct MadtNmiLine {
 
 /// What a MADT is to contain, in the words of `InterruptModel` and `ProcessorInfo`, as which it is read; or of what is
 /// written for them.
-#[derive(Copy)]
+#[derive(Copy, Debug)]
 pub struct MadtContents<'a, P = MadtProcessor, I = IoApic, O = InterruptSourceOverride, S = NmiSource, L = MadtNmiLine>
 {
     /// The physical address of each processor's local APIC.

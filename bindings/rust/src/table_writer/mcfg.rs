@@ -11,7 +11,7 @@ use crate::table_writer::table::{Table, write};
 use core::marker::PhantomData;
 
 /// The regions of an MCFG.
-#[derive(Clone, Copy)]
+#[derive(Clone, Copy, Debug)]
 pub(crate) struct Regions<'a, E>(pub &'a [E]);
 
 impl<'a, E: StandsFor<McfgEntry>> Table for Regions<'a, E> {

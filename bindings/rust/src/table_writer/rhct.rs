@@ -25,7 +25,7 @@ pub struct RhctContents<'a> {
 }
 
 /// All before the ISA string: the fixed fields, and the front of the ISA String Node.
-#[derive(Clone, Copy)]
+#[derive(Clone, Copy, Debug)]
 struct Front {
     flags: u32,
     time_base_frequency: u64,
@@ -43,7 +43,7 @@ impl Record for Front {
 }
 
 /// A Hart Info Node, by the hart's uid.
-#[derive(Clone, Copy)]
+#[derive(Clone, Copy, Debug)]
 struct HartNode(u32);
 
 impl Record for HartNode {

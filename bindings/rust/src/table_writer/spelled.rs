@@ -29,7 +29,7 @@ impl<T: Copy> StandsFor<T> for T {
 }
 
 /// The items that the things of a list mean, one after the other.
-#[derive(Clone, Copy)]
+#[derive(Clone, Copy, Debug)]
 pub struct EachItem<'a, T, R>(pub &'a [R], pub PhantomData<T>);
 
 impl<T: Spelled + Copy, R: StandsFor<T>> Spelled for EachItem<'_, T, R> {
@@ -62,7 +62,7 @@ impl<T: Spelled + Copy, R: StandsFor<T>> Spelled for EachItem<'_, T, R> {
 }
 
 /// The things of a list, one after the other.
-#[derive(Clone, Copy)]
+#[derive(Clone, Copy, Debug)]
 pub struct Each<'a, T>(pub &'a [T]);
 
 impl<T: Spelled + Copy> Spelled for Each<'_, T> {
@@ -76,7 +76,7 @@ impl<T: Spelled + Copy> Spelled for Each<'_, T> {
 }
 
 /// One thing, and after it another.
-#[derive(Clone, Copy)]
+#[derive(Clone, Copy, Debug)]
 pub struct Then<A, B>(pub A, pub B);
 
 impl<A: Spelled, B: Spelled> Spelled for Then<A, B> {
@@ -102,7 +102,7 @@ impl<A: Spelled, B: Spelled> Spelled for Then<A, B> {
 }
 
 /// Bytes, as they are.
-#[derive(Clone, Copy)]
+#[derive(Clone, Copy, Debug)]
 pub struct Bytes<'a>(pub &'a [u8]);
 
 impl<'a> Spelled for Bytes<'a> {

@@ -34,7 +34,7 @@ pub struct GiccDomain {
 }
 
 /// The contents of an SRAT, by the names of `Domains` and `MemoryAffinities`, as which it is read.
-#[derive(Clone, Copy)]
+#[derive(Clone, Copy, Debug)]
 pub struct SratContents<'a, R = MemoryRange> {
     /// The domains of processors with a local APIC.
     pub apics: &'a [ApicDomain],

@@ -29,7 +29,7 @@ pub fn write_ssdt(out: &mut [u8], ids: &TableIds, revision: u8, aml: &[u8]) -> R
 }
 
 /// A table of AML with this signature.
-#[derive(Clone, Copy)]
+#[derive(Clone, Copy, Debug)]
 pub(crate) struct Aml<'a>(pub(crate) Signature, pub(crate) AmlContents<'a>);
 
 impl<'a> Aml<'a> {

@@ -8,7 +8,8 @@ use crate::table_writer::numbers::bit_of;
 use crate::table_writer::table::{Table, write};
 
 /// Orientation Offset: by how many degrees an image was turned clockwise before it was drawn (section 5.2.22).
-#[derive(Clone, Copy)]
+#[derive(Clone, Copy, Debug)]
+#[non_exhaustive]
 pub enum BgrtOrientation {
     /// Not at all.
     Degrees0,
@@ -21,7 +22,7 @@ pub enum BgrtOrientation {
 }
 
 /// The contents of a BGRT, by the names of `Bgrt`, as which it is read.
-#[derive(Clone, Copy)]
+#[derive(Clone, Copy, Debug)]
 pub struct BgrtContents {
     /// Displayed: whether the image is on the screen.
     pub was_displayed: bool,

@@ -19,7 +19,7 @@ use crate::write::fadt::FadtContents;
 use crate::write::spcr::SpcrContents;
 
 /// What a table of AML is to have after its header (section 5.2.11).
-#[derive(Clone, Copy)]
+#[derive(Clone, Copy, Debug)]
 pub struct AmlContents<'a> {
     /// Revision: by 1 AML's integers have 32 bits, by 2 they have 64.
     pub revision: u8,
@@ -28,7 +28,8 @@ pub struct AmlContents<'a> {
 }
 
 /// A table that an XSDT can list, with its contents. Each is written as the function of its name writes it.
-#[derive(Clone, Copy)]
+#[derive(Clone, Copy, Debug)]
+#[non_exhaustive]
 pub enum TableContents<'a> {
     /// `write_madt`.
     Madt(MadtContents<'a>),

@@ -6,7 +6,7 @@ use crate::table_writer::numbers::{bit_of, dword, qword};
 use crate::write::rsdp::write_front;
 
 /// The contents of a FACS (section 5.2.10).
-#[derive(Clone, Copy)]
+#[derive(Clone, Copy, Debug)]
 pub struct FacsContents {
     /// Hardware Signature: a number that changes if the hardware does.
     pub hardware_signature: u32,

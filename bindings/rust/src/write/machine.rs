@@ -16,7 +16,7 @@ use crate::write::placed::{self, rounded};
 use crate::write::rsdp::{put_front, rsdp_bytes};
 
 /// A machine, as its tables describe it.
-#[derive(Clone, Copy)]
+#[derive(Clone, Copy, Debug)]
 pub struct Machine<'a, T = TableContents<'a>> {
     /// Who made the tables. Each table has them, and the RSDP has OEMID.
     pub ids: TableIds,

@@ -16,7 +16,7 @@ use crate::table_writer::table::{Table, write};
 use fields::Name;
 
 /// The PCI device that a serial port is, as an SPCR has it.
-#[derive(Clone, Copy)]
+#[derive(Clone, Copy, Debug)]
 pub struct SpcrPciDevice {
     /// PCI Device ID, for none of which 0xffff is written.
     pub device_id: u16,
@@ -36,7 +36,7 @@ pub struct SpcrPciDevice {
 }
 
 /// The contents of an SPCR, by the names of `Spcr`, as which it is read.
-#[derive(Clone, Copy)]
+#[derive(Clone, Copy, Debug)]
 pub struct SpcrContents<'a> {
     /// Interface Type: the interface of the port's registers.
     pub interface_type: SpcrInterfaceType,

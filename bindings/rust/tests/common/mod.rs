@@ -141,14 +141,26 @@ pub fn all<T: Copy + Default>(call: impl FnOnce(&mut [T]) -> Result<usize, Refus
     filled(64, call).map(|(items, _)| items)
 }
 
-/// A value's name and its fields in the order of their declaration, numbers in hexadecimal. An error has its text.
+/// A value's name and its fields in the order of their declaration, numbers in hexadecimal, without those that are
+/// reserved, which are 0. An error has its text.
 pub fn plain(value: impl Debug) -> String {
-    let text = format!("{value:#x?}");
+    let text = without_reserved(format!("{value:#x?}"));
     let mut lines = text.lines().map(|line| line.trim().trim_end_matches(','));
     let name = lines.next().unwrap_or("").trim_end_matches(['{', '(', '[', ' ']);
     let fields = lines.map(|line| line.rsplit(": ").next().unwrap_or(line));
     let values = fields.filter(|field| !field.ends_with(['{', '(', '[', '}', ')', ']']) || field.ends_with("[]"));
     values.fold(name.to_string(), |all, value| all + " " + value.trim_start_matches("0x"))
+}
+
+fn without_reserved(text: String) -> String {
+    let mut parts = text.split("reserved");
+    let first = parts.next().unwrap_or("").to_string();
+    parts.fold(first, |all, part| {
+        let last = if part.lines().next().unwrap().ends_with('[') { "],\n" } else { ",\n" };
+        let (value, rest) = part.split_once(last).unwrap();
+        assert!(value.split("0x").skip(1).all(|digits| digits.starts_with('0')), "reserved{value}");
+        all + rest
+    })
 }
 
 /// The same of each.

@@ -291,9 +291,9 @@ pub fn is_known(error: AcpiError) -> bool {
             MadtError::UnexpectedEntry | MadtError::InterruptOverrideEntryHasInvalidBus => true,
             MadtError::InvalidLocalNmiLine | MadtError::MpsIntiInvalidPolarity => true,
             MadtError::MpsIntiInvalidTriggerMode | MadtError::WakeupApsTimeout => true,
-            MadtError::InvalidEntryLength => false, //+
+            _ => false, //+
         },
-        AcpiError::MapFailed | AcpiError::SdtInvalidLength(_) | AcpiError::InvalidNamespaceString => false, //+
+        _ => false, //+
     }
 }
 

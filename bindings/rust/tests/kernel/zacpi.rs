@@ -9,8 +9,8 @@ struct Handler;
 
 impl AcpiHandler for Handler {
     fn map_physical_region(&self, address: u64, size: usize) -> AcpiResult<&[u8]> {
-        let at = (PHYSICAL_MEMORY + address) as *const u8;
-        is_memory(address, size).then(|| unsafe { from_raw_parts(at, size) }).ok_or(AcpiError::MapFailed)
+        let at = is_memory(address, size).then(|| (PHYSICAL_MEMORY + address) as *const u8);
+        at.map(|at| unsafe { from_raw_parts(at, size) }).ok_or(AcpiError::MapFailed)
     }
     fn unmap_physical_region(&self, _: u64, _: usize, _: usize) {}
 }

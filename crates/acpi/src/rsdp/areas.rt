@@ -1,7 +1,7 @@
 //! The search for the RSDP in areas that a caller passes, if firmware maps less than whole areas.
 ghost use Rattle.std.specs.Prelude.{◌≡◌, ◌<◌, ◌≤◌, ◌^◌, ◌+◌, ◌*◌, ℕ, Ok, IfErr, IfOk, IfSome, option_map, IsOk};
 ghost use Rattle.acpi_base.specs.Words.{IsOfMemory, bytes_of, handler_of, start_of, Allows, Footprint, Gives, lent};
-ghost use Rattle.acpi.specs.Words.{areas_ranges, count_in, first_in, is_refused_in, walk_in, IsSearchedIn, found_in_areas, rsdp_ranges, walk_ranges, rsdp_at, IsRefused, placed, walk};
+ghost use Rattle.acpi.specs.Words.{accepted_in_areas, accepted_rsdp_at, accepted_rsdp_ranges, areas_ranges, count_in, first_in, is_refused_in, walk_in, IsSearchedIn, found_in_areas, walk_ranges, rsdp_at, IsRefused, placed, walk};
 ghost use Rattle.acpi.specs.Areas as areas;
 
 use super::{Rsdp, check_mapped};
@@ -57,15 +57,15 @@ fn candidates(area: &AddressRange) -> (u64, u64)
 }
 
 /// Whether bytes contain a candidate's at an offset, and its own checks fail for these.
-fn is_refused_in(bytes: &[u8], offset: usize) -> bool
-    ensures { result ≡ is_refused_in bytes.now offset }
+fn is_refused_in(bytes: &[u8], offset: usize, accept: u32) -> bool
+    ensures { result ≡ is_refused_in accept bytes.now offset }
 {
     let front = skip(bytes, offset);
     if front.len() < 36 {
         return false;
     }
     let candidate = &front[..36];
-    Rsdp::read(candidate).summed_length(candidate).is_err()
+    Rsdp::read(candidate).summed_length(candidate, accept).is_err()
 }
 
 /// The RSDP at an address, if it is valid, or else how many candidates from there on are invalid,
@@ -74,26 +74,27 @@ fn candidate_at<'h, H: Lender>(
     handler: &'h H,
     address: u64,
     left: u64,
+    accept: u32,
 ) -> Result<PhysicalMapping<'h, H, Rsdp>, u64>
     requires some { 0 < left }
     requires low { 16 * left < 2 ^ 64 }
-    requires asked { Allows (H.may handler.now) (rsdp_ranges (H.memory handler.now) address) }
+    requires asked { Allows (H.may handler.now) (accepted_rsdp_ranges accept (H.memory handler.now) address) }
     ensures handler { IfOk result (λ m. handler_of m ≡ handler.now) }
     ensures lent { IfOk result (λ m. IsOfMemory (H.memory handler.now) m) }
     ensures place { IfOk result (λ m. start_of m ≡ address) }
-    ensures valid { IfOk result (λ m. rsdp_at (H.memory handler.now) address ≡ Ok (bytes_of m)) }
+    ensures valid { IfOk result (λ m. accepted_rsdp_at accept (H.memory handler.now) address ≡ Ok (bytes_of m)) }
     ensures some_passed { IfErr result (λ n. 0 < n) }
     ensures most { IfErr result (λ n. n ≤ left) }
     ensures refused { IfErr result (λ n. (i : ℕ) → i < n
-        → IsRefused (H.memory handler.now) (address + 16 * i)) }
+        → IsRefused accept (H.memory handler.now) (address + 16 * i)) }
 {
     match PhysicalMapping::<'h, H, Rsdp>::map(handler, address, 36) {
-        Ok(rsdp) => match check_mapped(handler, &rsdp) {
+        Ok(rsdp) => match check_mapped(handler, &rsdp, accept) {
             Ok(()) => Ok(rsdp),
             Err(_) => {
                 // The bytes that were mapped with its own may show that the ones after it are invalid too.
                 let bytes = rsdp.lent_bytes();
-                let other = (1..left).find(|k| !is_refused_in(bytes, 16 * *k as usize));
+                let other = (1..left).find(|k| !is_refused_in(bytes, 16 * *k as usize, accept));
                 Err(other.unwrap_or(left))
             }
         },
@@ -106,16 +107,17 @@ fn first_valid<'h, H: Lender>(
     handler: &'h H,
     first: u64,
     count: u64,
+    accept: u32,
 ) -> Option<PhysicalMapping<'h, H, Rsdp>>
     requires low { first + 16 * count < 2 ^ 64 }
-    requires asked { Allows (H.may handler.now) (walk_ranges (H.memory handler.now) count first) }
+    requires asked { Allows (H.may handler.now) (walk_ranges accept (H.memory handler.now) count first) }
     ensures handler { IfSome result (λ m. handler_of m ≡ handler.now) }
     ensures lent { IfSome result (λ m. IsOfMemory (H.memory handler.now) m) }
-    ensures found { option_map placed result ≡ walk (H.memory handler.now) count first }
+    ensures found { option_map placed result ≡ walk accept (H.memory handler.now) count first }
 {
     let mut passed = 0;
     while passed < count {
-        match candidate_at(handler, first + 16 * passed, count - passed) {
+        match candidate_at(handler, first + 16 * passed, count - passed, accept) {
             Ok(found) => return Some(found),
             Err(refused) => passed += refused,
         }
@@ -127,32 +129,34 @@ fn first_valid<'h, H: Lender>(
 fn first_of_area<'h, H: Lender>(
     handler: &'h H,
     area: &AddressRange,
+    accept: u32,
 ) -> Option<PhysicalMapping<'h, H, Rsdp>>
     requires { Allows (H.may handler.now)
-        (walk_ranges (H.memory handler.now) (count_in area.now) (first_in area.now)) }
+        (walk_ranges accept (H.memory handler.now) (count_in area.now) (first_in area.now)) }
     ensures handler { IfSome result (λ m. handler_of m ≡ handler.now) }
     ensures lent { IfSome result (λ m. IsOfMemory (H.memory handler.now) m) }
-    ensures found { option_map placed result ≡ walk_in (H.memory handler.now) area.now }
+    ensures found { option_map placed result ≡ walk_in accept (H.memory handler.now) area.now }
 {
     let (first, count) = candidates(area);
     if count == 0 {
         return None;
     }
-    first_valid(handler, first, count)
+    first_valid(handler, first, count, accept)
 }
 
 /// The first valid candidate of the areas, in their order. Fails with `NoValidRsdp` if there is none.
 fn first_of_areas<'h, H: Lender>(
     handler: &'h H,
     areas: &[AddressRange],
+    accept: u32,
 ) -> AcpiResult<PhysicalMapping<'h, H, Rsdp>>
-    requires { Allows (H.may handler.now) (areas_ranges (H.memory handler.now) areas.now) }
+    requires { Allows (H.may handler.now) (areas_ranges accept (H.memory handler.now) areas.now) }
     ensures handler { IfOk result (λ m. handler_of m ≡ handler.now) }
     ensures lent { IfOk result (λ m. IsOfMemory (H.memory handler.now) m) }
-    ensures exact { Gives placed result (found_in_areas (H.memory handler.now) areas.now) }
+    ensures exact { Gives placed result (accepted_in_areas accept (H.memory handler.now) areas.now) }
 {
     for area in areas {
-        if let Some(found) = first_of_area(handler, area) {
+        if let Some(found) = first_of_area(handler, area, accept) {
             return Ok(found);
         }
     }
@@ -173,24 +177,49 @@ impl Rsdp {
     /// candidate, and none if the bytes that were mapped for one before it show that it isn't valid.
     ///
     /// Fails with `NoValidRsdp` if no candidate is left, also if there are no areas.
-    #[tactic(auto, using(crate::proofs::Agreed::same_in_areas, crate::proofs::Among::found_valid_in, crate::proofs::Among::searched_in))]
     pub fn search_in<'h, H: Lender>(
         handler: &'h H,
         areas: &[AddressRange],
     ) -> AcpiResult<PhysicalMapping<'h, H, Rsdp>>
-        requires { Allows (H.may handler.now) (areas_ranges (H.memory handler.now) areas.now) }
+        requires { Allows (H.may handler.now) (areas_ranges 0 (H.memory handler.now) areas.now) }
         ensures handler { IfOk result (λ m. handler_of m ≡ handler.now) }
         // However many bytes were mapped, all of them are the memory's.
         ensures lent { IfOk result (λ m. IsOfMemory (H.memory handler.now) m) }
         ensures exact { Gives placed result (found_in_areas (H.memory handler.now) areas.now) }
         ensures valid { IfOk result (λ m. IsOk (rsdp_at (H.memory handler.now) (start_of m))) }
         // In the reader's words: the first valid candidate, or there is none.
-        ensures first { IsSearchedIn (H.memory handler.now) areas.now placed result }
+        ensures first { IsSearchedIn 0 (H.memory handler.now) areas.now placed result }
         // It depends on the candidates up to the one found.
         ensures footprint { let m = H.memory handler.now in
-            Footprint m (areas_ranges m areas.now) (λ n. found_in_areas n areas.now)
+            Footprint m (areas_ranges 0 m areas.now) (λ n. found_in_areas n areas.now)
             (Gives placed result) }
     {
-        first_of_areas(handler, areas)
+        Rsdp::search_in_accepting(handler, areas, 0)
+    }
+
+    /// The RSDP that the bits of `accept` accept, in areas that the caller passes: as `search_in` finds the first valid
+    /// one. `read_accepted` reads it.
+    ///
+    /// Fails as `search_in` does.
+    #[tactic(auto, using(crate::proofs::Agreed::same_in_areas, crate::proofs::Among::found_valid_in, crate::proofs::Among::searched_in))]
+    pub fn search_in_accepting<'h, H: Lender>(
+        handler: &'h H,
+        areas: &[AddressRange],
+        accept: u32,
+    ) -> AcpiResult<PhysicalMapping<'h, H, Rsdp>>
+        requires { Allows (H.may handler.now) (areas_ranges accept (H.memory handler.now) areas.now) }
+        ensures handler { IfOk result (λ m. handler_of m ≡ handler.now) }
+        // However many bytes were mapped, all of them are the memory's.
+        ensures lent { IfOk result (λ m. IsOfMemory (H.memory handler.now) m) }
+        ensures exact { Gives placed result (accepted_in_areas accept (H.memory handler.now) areas.now) }
+        ensures valid { IfOk result (λ m. IsOk (accepted_rsdp_at accept (H.memory handler.now) (start_of m))) }
+        // In the reader's words: the first candidate that is accepted, or there is none.
+        ensures first { IsSearchedIn accept (H.memory handler.now) areas.now placed result }
+        // It depends on the candidates up to the one found.
+        ensures footprint { let m = H.memory handler.now in
+            Footprint m (areas_ranges accept m areas.now) (λ n. accepted_in_areas accept n areas.now)
+            (Gives placed result) }
+    {
+        first_of_areas(handler, areas, accept)
     }
 }

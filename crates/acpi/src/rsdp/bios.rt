@@ -1,9 +1,9 @@
 //! The search for the RSDP in the firmware's areas, on systems that boot by a BIOS (section 5.2.5.1).
 ghost use Rattle.std.specs.Prelude.{◌≡◌, true, ◌<◌, ◌≤◌, ◌^◌, ◌+◌, length, Ok, IfOk, IfSome, option_map, bytes_eq, IsOk};
 ghost use Rattle.acpi_base.specs.Words.{part, IsOfMemory, handler_of, start_of, Gives, lent, Allows, Footprint};
-ghost use Rattle.acpi.specs.Words.{area_ranges, search_ranges, rsd_ptr, rsdp_at, second_area, count_of, found_in, found_rsdp, last_in, placed, room_of, walk, word_in, IsSearched};
+ghost use Rattle.acpi.specs.Words.{accepted_found_rsdp, accepted_rsdp_at, accepted_search_ranges, area_ranges, search_ranges, rsd_ptr, rsdp_at, second_area, count_of, found_in, found_rsdp, last_in, placed, room_of, walk, word_in, IsSearched};
 
-use super::{RawBytes, Rsdp, map_rsdp};
+use super::{RawBytes, Rsdp, map_accepted_rsdp};
 use acpi_base::bytes::{filled_in, u16_in};
 use acpi_base::{AcpiError, AcpiResult, Lender, PhysicalMapping};
 
@@ -58,15 +58,16 @@ fn first_candidate<'h, H: Lender>(
     handler: &'h H,
     area: Area,
     bytes: &[u8],
+    accept: u32,
 ) -> Option<PhysicalMapping<'h, H, Rsdp>>
     requires some { area.start + 20 ≤ area.end }
     requires low { area.end < 2 ^ 32 }
     requires lent { lent (H.memory handler.now) area.start (room_of area) ≡ Ok bytes.now }
-    requires asked { Allows (H.may handler.now) (area_ranges (H.memory handler.now) area) }
+    requires asked { Allows (H.may handler.now) (area_ranges accept (H.memory handler.now) area) }
     ensures handler { IfSome result (λ m. handler_of m ≡ handler.now) }
     ensures lent { IfSome result (λ m. IsOfMemory (H.memory handler.now) m) }
     ensures found { option_map placed result
-        ≡ walk (H.memory handler.now) (count_of area) area.start }
+        ≡ walk accept (H.memory handler.now) (count_of area) area.start }
 {
     let candidates = (area.end - area.start - 4) / 16;
     for k in 0..candidates {
@@ -75,7 +76,7 @@ fn first_candidate<'h, H: Lender>(
         if !has_signature(bytes, offset as usize) {
             continue;
         }
-        if let Ok(found) = map_rsdp(handler, area.start + offset) {
+        if let Ok(found) = map_accepted_rsdp(handler, area.start + offset, accept) {
             return Some(found);
         }
     }
@@ -89,17 +90,18 @@ fn first_candidate<'h, H: Lender>(
 fn search_area<'h, H: Lender>(
     handler: &'h H,
     area: Area,
+    accept: u32,
 ) -> AcpiResult<Option<PhysicalMapping<'h, H, Rsdp>>>
     requires some { area.start + 20 ≤ area.end }
     requires low { area.end < 2 ^ 32 }
-    requires asked { Allows (H.may handler.now) (area_ranges (H.memory handler.now) area) }
+    requires asked { Allows (H.may handler.now) (area_ranges accept (H.memory handler.now) area) }
     ensures handler { IfOk result (λ o. IfSome o (λ m. handler_of m ≡ handler.now)) }
     ensures lent { IfOk result (λ o. IfSome o (λ m. IsOfMemory (H.memory handler.now) m)) }
-    ensures found { Gives (option_map placed) result (found_in (H.memory handler.now) area) }
+    ensures found { Gives (option_map placed) result (found_in accept (H.memory handler.now) area) }
 {
     let length = (area.end - area.start + 16) as usize;
     let mapping = PhysicalMapping::<'h, H, RawBytes>::map(handler, area.start, length)?;
-    Ok(first_candidate(handler, area, mapping.bytes()))
+    Ok(first_candidate(handler, area, mapping.bytes(), accept))
 }
 
 /// The word at 40:0Eh of the BIOS data area, the segment of the EBDA: it names the second area.
@@ -119,15 +121,16 @@ fn area_word<H: Lender>(handler: &H) -> AcpiResult<u16>
 fn search_last<'h, H: Lender>(
     handler: &'h H,
     area: Area,
+    accept: u32,
 ) -> AcpiResult<PhysicalMapping<'h, H, Rsdp>>
     requires some { area.start + 20 ≤ area.end }
     requires low { area.end < 2 ^ 32 }
-    requires asked { Allows (H.may handler.now) (area_ranges (H.memory handler.now) area) }
+    requires asked { Allows (H.may handler.now) (area_ranges accept (H.memory handler.now) area) }
     ensures handler { IfOk result (λ m. handler_of m ≡ handler.now) }
     ensures lent { IfOk result (λ m. IsOfMemory (H.memory handler.now) m) }
-    ensures found { Gives placed result (last_in (H.memory handler.now) area) }
+    ensures found { Gives placed result (last_in accept (H.memory handler.now) area) }
 {
-    search_area(handler, area)?.ok_or(AcpiError::NoValidRsdp)
+    search_area(handler, area, accept)?.ok_or(AcpiError::NoValidRsdp)
 }
 
 impl Rsdp {
@@ -148,7 +151,6 @@ impl Rsdp {
     ///
     /// Fails with `MapFailed` if the word or an area that is requested isn't mapped, and with
     /// `NoValidRsdp` if no candidate is left.
-    #[tactic(auto, unfolding(crate::specs::Search::found_rsdp))]
     pub fn search_for_on_bios<'h, H: Lender>(
         handler: &'h H,
     ) -> AcpiResult<PhysicalMapping<'h, H, Rsdp>>
@@ -159,16 +161,41 @@ impl Rsdp {
         ensures exact { Gives placed result (found_rsdp (H.memory handler.now)) }
         ensures valid { IfOk result (λ m. IsOk (rsdp_at (H.memory handler.now) (start_of m))) }
         // In the reader's words: the least valid candidate, or the cause of the error.
-        ensures least { IsSearched (H.memory handler.now) placed result }
+        ensures least { IsSearched 0 (H.memory handler.now) placed result }
         // It depends on the word, the areas that are requested, and the candidates up to the one
         // found.
         ensures footprint { let m = H.memory handler.now in
             Footprint m (search_ranges m) found_rsdp (Gives placed result) }
     {
+        Rsdp::search_for_on_bios_accepting(handler, 0)
+    }
+
+    /// The RSDP that the bits of `accept` accept, of a system that boots by a BIOS: as `search_for_on_bios` finds the
+    /// first valid one. `read_accepted` reads it.
+    ///
+    /// Fails as `search_for_on_bios` does.
+    #[tactic(auto, unfolding(crate::specs::Search::accepted_found_rsdp))]
+    pub fn search_for_on_bios_accepting<'h, H: Lender>(
+        handler: &'h H,
+        accept: u32,
+    ) -> AcpiResult<PhysicalMapping<'h, H, Rsdp>>
+        requires { Allows (H.may handler.now) (accepted_search_ranges accept (H.memory handler.now)) }
+        ensures handler { IfOk result (λ m. handler_of m ≡ handler.now) }
+        // However many bytes were mapped, all of them are the memory's.
+        ensures lent { IfOk result (λ m. IsOfMemory (H.memory handler.now) m) }
+        ensures exact { Gives placed result (accepted_found_rsdp accept (H.memory handler.now)) }
+        ensures valid { IfOk result (λ m. IsOk (accepted_rsdp_at accept (H.memory handler.now) (start_of m))) }
+        // In the reader's words: the least candidate that is accepted, or the cause of the error.
+        ensures least { IsSearched accept (H.memory handler.now) placed result }
+        // It depends on the word, the areas that are requested, and the candidates up to the one
+        // found.
+        ensures footprint { let m = H.memory handler.now in
+            Footprint m (accepted_search_ranges accept m) (accepted_found_rsdp accept) (Gives placed result) }
+    {
         match area_word(handler) {
-            Ok(word) => match search_area(handler, FIRST_AREA) {
+            Ok(word) => match search_area(handler, FIRST_AREA, accept) {
                 Ok(Some(found)) => Ok(found),
-                Ok(None) => search_last(handler, second_area(word)),
+                Ok(None) => search_last(handler, second_area(word), accept),
                 Err(error) => Err(error),
             },
             Err(error) => Err(error),

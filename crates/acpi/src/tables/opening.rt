@@ -1,12 +1,12 @@
 //! Opening the root table: by its address, by an RSDP, by the search for one.
 ghost use Rattle.std.specs.Prelude.{◌≡◌, IfOk, IsOk};
 ghost use Rattle.acpi_base.specs.Words.{Allows, Footprint, start_of, bytes_of, Gives};
-ghost use Rattle.acpi.specs.Words.{accept_of, accepted_opened, accepted_opened_ranges, opened_in_areas, opened_in_areas_ranges, opened_at, opened_from, opened_of, opened_by_rsdp, opened_by_search, opened_by_rsdp_ranges, opened_by_search_ranges, opened_ranges, root_of_revision, root_of_rsdp, rsdp_at, SpellsPointers, lender_of};
+ghost use Rattle.acpi.specs.Words.{accept_of, accepted_opened, accepted_opened_by_rsdp, accepted_opened_by_rsdp_ranges, accepted_opened_by_search, accepted_opened_by_search_ranges, accepted_opened_in_areas, accepted_opened_in_areas_ranges, accepted_opened_ranges, accepted_root, lender_of, opened_at, opened_by_rsdp, opened_by_rsdp_ranges, opened_by_search, opened_by_search_ranges, opened_in_areas, opened_in_areas_ranges, opened_of, opened_ranges, root_of_revision, root_ranges_of, rsdp_at, SpellsPointers};
 
 use super::AcpiTables;
 use crate::policy::{Policy, Valid};
 use crate::root::{RootKind, RootPointer};
-use crate::rsdp::{Rsdp, map_rsdp};
+use crate::rsdp::{Rsdp, map_accepted_rsdp, read_accepted};
 use acpi_base::sdt::SdtHeader;
 use acpi_base::table::valid_by;
 use acpi_base::{AcpiResult, AddressRange, Lender, PhysicalMapping, PhysicalRecord};
@@ -34,7 +34,7 @@ impl<'h, H: Lender> AcpiTables<'h, H> {
             Footprint m (opened_by_rsdp_ranges m address) (λ n. opened_by_rsdp n address)
             (Gives (λ t. opened_of t) result) }
     {
-        AcpiTables::from_root(handler, map_rsdp(handler, address)?)
+        AcpiTables::from_rsdp_accepting(handler, address, Valid)
     }
 
     /// The tables below the root table of the RSDP that `Rsdp::search_for_on_bios` finds (section
@@ -55,7 +55,7 @@ impl<'h, H: Lender> AcpiTables<'h, H> {
             Footprint m (opened_by_search_ranges m) opened_by_search
             (Gives (λ t. opened_of t) result) }
     {
-        AcpiTables::from_root(handler, Rsdp::search_for_on_bios(handler)?)
+        AcpiTables::search_for_rsdp_bios_accepting(handler, Valid)
     }
 
     /// The tables below the root table of the RSDP that `Rsdp::search_in` finds in these areas (section
@@ -78,7 +78,7 @@ impl<'h, H: Lender> AcpiTables<'h, H> {
             Footprint m (opened_in_areas_ranges m areas.now) (λ n. opened_in_areas n areas.now)
             (Gives (λ t. opened_of t) result) }
     {
-        AcpiTables::from_root(handler, Rsdp::search_in(handler, areas)?)
+        AcpiTables::search_in_accepting(handler, areas, Valid)
     }
 
     /// The tables below the root table that a valid RSDP leads to (sections 5.2.5.3, 5.2.7 and 5.2.8). Of
@@ -108,23 +108,9 @@ impl<'h, H: Lender> AcpiTables<'h, H> {
         let address = mapping.physical_start();
         drop(mapping);
         match PhysicalMapping::map(handler, address, Rsdp::MIN_LENGTH) {
-            Ok(rsdp) => AcpiTables::from_root(handler, rsdp),
+            Ok(rsdp) => AcpiTables::open_read(handler, rsdp, Valid),
             Err(error) => Err(error),
         }
-    }
-
-    /// The tables below the root table that an RSDP leads to, which is unmapped first.
-    fn from_root(handler: &'h H, rsdp: PhysicalMapping<'h, H, Rsdp>) -> AcpiResult<Self>
-        requires { Allows (H.may handler.now)
-            (opened_ranges (H.memory handler.now) (root_of_rsdp (bytes_of rsdp))) }
-        ensures handler { IfOk result (λ t. lender_of t ≡ handler.now) }
-        ensures exact { Gives (λ t. opened_of t) result
-            (opened_from (H.memory handler.now) (root_of_rsdp (bytes_of rsdp.entry))) }
-        ensures pointers { IfOk result (λ t. SpellsPointers t) }
-    {
-        let root_pointer = rsdp.get().root();
-        drop(rsdp);
-        AcpiTables::open(handler, root_pointer)
     }
 
     /// The tables below the root table at a physical address: an RSDT, with pointers of four bytes, for
@@ -155,23 +141,13 @@ impl<'h, H: Lender> AcpiTables<'h, H> {
             kind: RootKind::of_revision(revision),
             address,
         };
-        AcpiTables::open(handler, root_pointer)
-    }
-
-    /// The tables below a root table.
-    fn open(handler: &'h H, root_pointer: RootPointer) -> AcpiResult<Self>
-        requires { Allows (H.may handler.now) (opened_ranges (H.memory handler.now) root_pointer) }
-        ensures handler { IfOk result (λ t. lender_of t ≡ handler.now) }
-        ensures exact { Gives (λ t. opened_of t) result (opened_from (H.memory handler.now) root_pointer) }
-        ensures pointers { IfOk result (λ t. SpellsPointers t) }
-    {
         AcpiTables::open_accepting(handler, root_pointer, Valid)
     }
 }
 
 impl<'h, H: Lender, P: Policy> AcpiTables<'h, H, P> {
     /// The tables below a root table (sections 5.2.7 and 5.2.8), which is accepted by a policy, as then its members
-    /// are. `RsdpMapping::root` has the root table that an RSDP leads to.
+    /// are. `Rsdp::root` has the root table that an RSDP leads to.
     ///
     /// Fails as `from_rsdt` does, but for the checks that the policy gives up.
     pub fn open_accepting(handler: &'h H, root_pointer: RootPointer, policy: P) -> AcpiResult<Self>
@@ -205,5 +181,92 @@ impl<'h, H: Lender, P: Policy> AcpiTables<'h, H, P> {
             }),
             Err(error) => Err(error),
         }
+    }
+
+    /// The tables below the root table that the RSDP at a physical address leads to, which a policy accepts, as then the
+    /// root table and its members are: by `map_accepted_rsdp`, `read_accepted` and `open_accepting`.
+    ///
+    /// Fails as `from_rsdp` does, but for the checks that the policy gives up.
+    pub fn from_rsdp_accepting(handler: &'h H, address: u64, policy: P) -> AcpiResult<Self>
+        requires { Allows (H.may handler.now)
+            (accepted_opened_by_rsdp_ranges (P.bits policy) (H.memory handler.now) address) }
+        ensures handler { IfOk result (λ t. lender_of t ≡ handler.now) }
+        ensures accept { IfOk result (λ t. accept_of t ≡ P.bits policy) }
+        ensures exact { Gives (λ t. opened_of t) result
+            (accepted_opened_by_rsdp (P.bits policy) (H.memory handler.now) address) }
+        // In the reader's words: the root table's bytes encode these pointers and no others.
+        ensures pointers { IfOk result (λ t. SpellsPointers t) }
+        // It depends on the RSDP and the root table that this leads to, and on no other byte.
+        ensures footprint { let m = H.memory handler.now in
+            Footprint m (accepted_opened_by_rsdp_ranges (P.bits policy) m address)
+            (λ n. accepted_opened_by_rsdp (P.bits policy) n address) (Gives (λ t. opened_of t) result) }
+    {
+        let rsdp = map_accepted_rsdp(handler, address, policy.bits())?;
+        AcpiTables::open_read(handler, rsdp, policy)
+    }
+
+    /// The tables below the root table of the RSDP that `Rsdp::search_for_on_bios_accepting` finds by a policy.
+    ///
+    /// Fails as `search_for_rsdp_bios` does, but for the checks that the policy gives up.
+    pub fn search_for_rsdp_bios_accepting(handler: &'h H, policy: P) -> AcpiResult<Self>
+        requires { Allows (H.may handler.now)
+            (accepted_opened_by_search_ranges (P.bits policy) (H.memory handler.now)) }
+        ensures handler { IfOk result (λ t. lender_of t ≡ handler.now) }
+        ensures accept { IfOk result (λ t. accept_of t ≡ P.bits policy) }
+        ensures exact { Gives (λ t. opened_of t) result
+            (accepted_opened_by_search (P.bits policy) (H.memory handler.now)) }
+        // In the reader's words: the root table's bytes encode these pointers and no others.
+        ensures pointers { IfOk result (λ t. SpellsPointers t) }
+        // It depends on what the search requests and the root table that the RSDP leads to.
+        ensures footprint { let m = H.memory handler.now in
+            Footprint m (accepted_opened_by_search_ranges (P.bits policy) m)
+            (accepted_opened_by_search (P.bits policy)) (Gives (λ t. opened_of t) result) }
+    {
+        let rsdp = Rsdp::search_for_on_bios_accepting(handler, policy.bits())?;
+        AcpiTables::open_read(handler, rsdp, policy)
+    }
+
+    /// The tables below the root table of the RSDP that `Rsdp::search_in_accepting` finds by a policy.
+    ///
+    /// Fails as `search_in` does, but for the checks that the policy gives up.
+    pub fn search_in_accepting(
+        handler: &'h H,
+        areas: &[AddressRange],
+        policy: P,
+    ) -> AcpiResult<Self>
+        requires { Allows (H.may handler.now)
+            (accepted_opened_in_areas_ranges (P.bits policy) (H.memory handler.now) areas.now) }
+        ensures handler { IfOk result (λ t. lender_of t ≡ handler.now) }
+        ensures accept { IfOk result (λ t. accept_of t ≡ P.bits policy) }
+        ensures exact { Gives (λ t. opened_of t) result
+            (accepted_opened_in_areas (P.bits policy) (H.memory handler.now) areas.now) }
+        // In the reader's words: the root table's bytes encode these pointers and no others.
+        ensures pointers { IfOk result (λ t. SpellsPointers t) }
+        // It depends on the candidates up to the one found and the root table that this leads to.
+        ensures footprint { let m = H.memory handler.now in
+            Footprint m (accepted_opened_in_areas_ranges (P.bits policy) m areas.now)
+            (λ n. accepted_opened_in_areas (P.bits policy) n areas.now) (Gives (λ t. opened_of t) result) }
+    {
+        let rsdp = Rsdp::search_in_accepting(handler, areas, policy.bits())?;
+        AcpiTables::open_read(handler, rsdp, policy)
+    }
+
+    /// The tables below the root table that an accepted RSDP leads to, which is unmapped first.
+    fn open_read(
+        handler: &'h H,
+        rsdp: PhysicalMapping<'h, H, Rsdp>,
+        policy: P,
+    ) -> AcpiResult<Self>
+        requires { Allows (H.may handler.now)
+            (root_ranges_of (P.bits policy) (H.memory handler.now) (start_of rsdp, bytes_of rsdp)) }
+        ensures handler { IfOk result (λ t. lender_of t ≡ handler.now) }
+        ensures accept { IfOk result (λ t. accept_of t ≡ P.bits policy) }
+        ensures exact { Gives (λ t. opened_of t) result (accepted_opened (P.bits policy) (H.memory handler.now)
+            (accepted_root (P.bits policy) (H.memory handler.now) (start_of rsdp.entry, bytes_of rsdp.entry))) }
+        ensures pointers { IfOk result (λ t. SpellsPointers t) }
+    {
+        let root_pointer = read_accepted(handler, &rsdp, policy.bits()).root();
+        drop(rsdp);
+        AcpiTables::open_accepting(handler, root_pointer, policy)
     }
 }

@@ -18,11 +18,12 @@ pub struct PhysicalMapping<'h, H: Lender, T: PhysicalRecord> {
 }
 
 impl<'h, H: Lender, T: PhysicalRecord> PhysicalMapping<'h, H, T> {
-    ghost use Rattle.std.specs.Prelude.{◌+◌, ◌^◌, ◌<◌, true, take, IfOk, Some};
+    ghost use Rattle.std.specs.Prelude.{◌+◌, ◌^◌, ◌<◌, ◌∷◌, [], true, take, IfOk, Some};
     ghost use Rattle.acpi_base.specs.Claim.{all_of, claimed_at, claimed_from};
     ghost use Rattle.acpi_base.specs.Mapping.{start_of, bytes_of, lent_of, mapped_of, handler_of};
     ghost use Rattle.acpi_bytes.specs.Memory.{at};
     ghost use Rattle.acpi_bytes.specs.Steps.{Gives, lent};
+    ghost use Rattle.acpi_base.specs.Ranges.{Footprint};
 
     /// The mapping of the first `region_length` of these bytes, at least `T::MIN_LENGTH` and at most all, which are
     /// from the physical address `physical_start` on. It reads the record from them. The bytes may come from
@@ -54,6 +55,7 @@ impl<'h, H: Lender, T: PhysicalRecord> PhysicalMapping<'h, H, T> {
     /// handler maps them.
     ///
     /// Fails with `MapFailed` if they aren't all inside one region.
+    #[tactic(auto, using(crate::proofs::OwnTable::same_lent))]
     pub fn map(handler: &'h H, address: u64, size: usize) -> AcpiResult<Self>
         requires some { 0 < size }
         requires asked { H.may handler.now address size ≡ true }
@@ -66,10 +68,13 @@ impl<'h, H: Lender, T: PhysicalRecord> PhysicalMapping<'h, H, T> {
         // However many bytes are mapped, all of them are the memory's.
         ensures lent { IfOk result (λ m. at (H.memory handler.now) address (mapped_of m)
             ≡ Some (lent_of m)) }
+        // It depends on these bytes alone.
+        ensures footprint { Footprint (H.memory handler.now) ((address, size) ∷ []) (λ n. lent n address size)
+            (Gives (λ m. bytes_of m) result) }
     {
         let claim = Claim::request(handler, address, size)?;
         // A `return`, so that the lemma is tried for this value alone.
-        #[tactic(auto, using(acpi_bytes::proofs::LentRanges::lent_ends))]
+        #[tactic(auto, using(acpi_bytes::proofs::LentRanges::lent_ends, crate::proofs::OwnTable::same_lent))]
         return Ok(PhysicalMapping::of_claim(claim));
     }
 

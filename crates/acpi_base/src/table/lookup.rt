@@ -1,6 +1,6 @@
 //! The table at an address (section 5.2.6).
 ghost use Rattle.std.specs.Prelude.{◌≡◌, ℕ, true, ◌+◌, ◌^◌, ◌<◌, ◌≤◌, ◌||◌, length, IfErr, IfOk, Ok, Err};
-ghost use Rattle.acpi_base.specs.Words.{IsLentOf, IsWholeClaim, accepted, has_bit, left_of, claimed_at, claimed_from, header_at, own_accepted, own_accepted_ranges, own_table_at, own_table_ranges, sdt_kind, shown_by, unchecked, all_of, IsOfMemory, start_of, bytes_of, handler_of, lent_of, Allows, table_ranges, whole_ranges, Gives, lent, Kind, plain_kind, table_at, check_names};
+ghost use Rattle.acpi_base.specs.Words.{Footprint, IsLentOf, IsWholeClaim, accepted, check_of, has_bit, left_of, claimed_at, claimed_from, header_at, own_accepted, own_accepted_ranges, own_table_at, own_table_ranges, sdt_kind, shown_by, unchecked, all_of, IsOfMemory, start_of, bytes_of, handler_of, lent_of, Allows, table_ranges, whole_ranges, Gives, lent, Kind, plain_kind, table_at, check_names};
 
 use super::AcpiTable;
 use super::header::SdtHeader;
@@ -89,6 +89,20 @@ impl<'h, H: Lender> ValidTable<'h, H> {
     }
 }
 
+/// What the checks of bytes return for a table of type `T` whose header has the names, and a length that is their
+/// number.
+#[inline(always)]
+#[tactic(auto, using(crate::proofs::OwnTable::own_after))]
+fn check_valid<T: AcpiTable>(bytes: &[u8]) -> AcpiResult<()>
+    requires least { T.MIN_LENGTH ≤ length bytes.now }
+    requires names { check_names T.SIGNATURE (header_at bytes.now) ≡ Ok tt }
+    requires length { (header_at bytes.now).length ≡ length bytes.now }
+    ensures { result ≡ check_of T.kind bytes.now }
+{
+    T::validate_rest(bytes)?;
+    T::check_own(bytes)
+}
+
 /// The bytes of the table whose header is claimed, if it is valid for `T`. No record is made of them here:
 /// they are small to pass on, and the record is read where it is to be.
 #[inline(never)]
@@ -104,7 +118,7 @@ fn claim_valid<'h, H: Lender, T: AcpiTable>(head: Claim<'h, H>) -> AcpiResult<Va
         (table_at m T.kind (claimed_at head.entry)) }
 {
     let claim = claim_whole(head, T::SIGNATURE, T::MIN_LENGTH, 0)?;
-    match T::validate_rest(claim.shown()) {
+    match check_valid::<T>(claim.shown()) {
         Ok(()) => Ok(ValidTable { claim }),
         Err(error) => {
             claim.end();
@@ -117,7 +131,7 @@ fn claim_valid<'h, H: Lender, T: AcpiTable>(head: Claim<'h, H>) -> AcpiResult<Va
 ///
 /// Fails as `map_table` does.
 #[inline(always)]
-#[tactic(auto, using(crate::proofs::AllowedRanges::asked_header, crate::proofs::AllowedRanges::asked_whole))]
+#[tactic(auto, using(crate::proofs::AllowedRanges::asked_header, crate::proofs::AllowedRanges::asked_whole, crate::proofs::OwnTable::same_table))]
 pub fn valid_at<'h, H: Lender, T: AcpiTable>(
     handler: &'h H,
     address: u64,
@@ -130,12 +144,16 @@ pub fn valid_at<'h, H: Lender, T: AcpiTable>(
     ensures lent { IfOk result (λ v. IsLentOf (H.memory handler.now) v.claim) }
     ensures table { Gives (λ v. shown_by v.claim) result
         (table_at (H.memory handler.now) T.kind address) }
+    // It depends on the table's header and, if this has the names and the least length, on the table.
+    ensures footprint { let m = H.memory handler.now in
+        Footprint m (table_ranges m T.kind address) (λ n. table_at n T.kind address)
+        (Gives (λ v. shown_by v.claim) result) }
 {
     let head = claim_header(handler, address, T::SIGNATURE)?;
     claim_valid::<H, T>(head)
 }
 
-/// What is left of the result of a type's own check of a table's bytes by the bits of `accept`: by bit 0 an error of
+/// What is left of the result of a type's check of a table's bytes by the bits of `accept`: by bit 0 an error of
 /// the sum doesn't count, by bit 1 one of an id, after which only the sum is left to check.
 fn left_of(
     checked: AcpiResult<()>,
@@ -158,6 +176,18 @@ fn left_of(
     }
 }
 
+/// What the checks of bytes return for `T` that are left by the bits of `accept`, of which some are set.
+#[tactic(auto, using(crate::proofs::OwnTable::own_after, crate::proofs::Accepted::left_decides))]
+fn check_accepted<T: AcpiTable>(bytes: &[u8], accept: u32) -> AcpiResult<()>
+    requires least { T.MIN_LENGTH ≤ length bytes.now }
+    requires some { (has_bit accept 0 || has_bit accept 1) ≡ true }
+    ensures { result ≡ check_of (accepted accept T.kind) bytes.now }
+{
+    let checked = T::read(bytes).validate(bytes);
+    left_of(checked, T::SIGNATURE, bytes, accept)?;
+    T::check_own(bytes)
+}
+
 /// The bytes of the table whose header is claimed, if by the bits of `accept`, of which some are set, it is accepted
 /// for `T`.
 #[inline(never)]
@@ -177,8 +207,7 @@ fn claim_accepted<'h, H: Lender, T: AcpiTable>(
         (table_at m (accepted accept T.kind) (claimed_at head.entry)) }
 {
     let claim = claim_whole(head, T::SIGNATURE, T::MIN_LENGTH, accept)?;
-    let checked = T::read(claim.shown()).validate(claim.shown());
-    match left_of(checked, T::SIGNATURE, claim.shown(), accept) {
+    match check_accepted::<T>(claim.shown(), accept) {
         Ok(()) => Ok(ValidTable { claim }),
         Err(error) => {
             claim.end();
@@ -189,12 +218,12 @@ fn claim_accepted<'h, H: Lender, T: AcpiTable>(
 
 /// The bytes of the table at a physical address, if it is accepted for `T` (section 5.2.6): if it is valid, or only
 /// checks fail that are given up. By bit 0 of `accept` its sum may be any, by bit 1 both of its ids, and by 0 it has to
-/// be valid. What `T::validate` checks besides stays: of its result an error of the sum or of an id doesn't count that
-/// is given up, and after one of an id only the sum is left to check.
+/// be valid. Of the result of `T::validate` an error of the sum or of an id doesn't count that is given up, and after one
+/// of an id only the sum is left to check. `T::check_own` stays.
 ///
 /// Fails as `map_table` does, but for those errors.
 #[inline(always)]
-#[tactic(auto, using(crate::proofs::AllowedRanges::asked_header, crate::proofs::AllowedRanges::asked_whole))]
+#[tactic(auto, using(crate::proofs::AllowedRanges::asked_header, crate::proofs::AllowedRanges::asked_whole, crate::proofs::OwnTable::same_table))]
 pub fn accepted_at<'h, H: Lender, T: AcpiTable>(
     handler: &'h H,
     address: u64,
@@ -208,6 +237,10 @@ pub fn accepted_at<'h, H: Lender, T: AcpiTable>(
     ensures lent { IfOk result (λ v. IsLentOf (H.memory handler.now) v.claim) }
     ensures table { Gives (λ v. shown_by v.claim) result
         (table_at (H.memory handler.now) (accepted accept T.kind) address) }
+    // It depends on the table's header and, if this has the names and the least length, on the table.
+    ensures footprint { let m = H.memory handler.now in
+        Footprint m (table_ranges m (accepted accept T.kind) address) (λ n. table_at n (accepted accept T.kind) address)
+        (Gives (λ v. shown_by v.claim) result) }
 {
     let head = claim_header(handler, address, T::SIGNATURE)?;
     if has_bit(accept as u64, 0) || has_bit(accept as u64, 1) {
@@ -226,6 +259,7 @@ pub fn accepted_at<'h, H: Lender, T: AcpiTable>(
 /// UTF-8, `SdtInvalidLength` if the length in the header is under `T::MIN_LENGTH`, `MapFailed` if that many
 /// bytes aren't mapped, and with the error of `T::validate` for these bytes.
 #[inline(always)]
+#[tactic(auto, using(crate::proofs::OwnTable::same_table))]
 pub fn map_table<'h, H: Lender, T: AcpiTable>(
     handler: &'h H,
     address: u64,
@@ -237,6 +271,10 @@ pub fn map_table<'h, H: Lender, T: AcpiTable>(
     ensures lent { IfOk result (λ m. IsOfMemory (H.memory handler.now) m) }
     ensures table { Gives (λ m. bytes_of m) result
         (table_at (H.memory handler.now) T.kind address) }
+    // It depends on the table's header and, if this has the names and the least length, on the table.
+    ensures footprint { let m = H.memory handler.now in
+        Footprint m (table_ranges m T.kind address) (λ n. table_at n T.kind address)
+        (Gives (λ m. bytes_of m) result) }
 {
     let valid = valid_at::<H, T>(handler, address)?;
     Ok(valid.mapping())
@@ -276,7 +314,7 @@ fn claim_by<'h, H: Lender>(
 ///
 /// Fails as `map_table` does for a type with that signature and least length, but for the checks that are skipped.
 #[inline(always)]
-#[tactic(auto, using(crate::proofs::AllowedRanges::asked_header, crate::proofs::AllowedRanges::asked_whole))]
+#[tactic(auto, using(crate::proofs::AllowedRanges::asked_header, crate::proofs::AllowedRanges::asked_whole, crate::proofs::OwnTable::same_table))]
 pub fn valid_by<'h, H: Lender>(
     handler: &'h H,
     address: u64,
@@ -296,6 +334,10 @@ pub fn valid_by<'h, H: Lender>(
     ensures lent { IfOk result (λ v. IsLentOf (H.memory handler.now) v.claim) }
     ensures table { Gives (λ v. shown_by v.claim) result
         (table_at (H.memory handler.now) (accepted accept (sdt_kind signature least)) address) }
+    // It depends on the table's header and, if this has the names and the least length, on the table.
+    ensures footprint { let m = H.memory handler.now in
+        Footprint m (table_ranges m (accepted accept (sdt_kind signature least)) address) (λ n. table_at n (accepted accept (sdt_kind signature least)) address)
+        (Gives (λ v. shown_by v.claim) result) }
 {
     let head = claim_header(handler, address, signature)?;
     claim_by(head, signature, least, accept)
@@ -306,7 +348,7 @@ pub fn valid_by<'h, H: Lender>(
 ///
 /// Fails as `valid_by` does for that signature.
 #[inline(always)]
-#[tactic(auto, unfolding(acpi_bytes::specs::Accepted::own_accepted))]
+#[tactic(auto, using(crate::proofs::OwnTable::same_own_accepted), unfolding(acpi_bytes::specs::Accepted::own_accepted))]
 pub fn own_valid_by<'h, H: Lender>(
     handler: &'h H,
     address: u64,
@@ -321,6 +363,10 @@ pub fn own_valid_by<'h, H: Lender>(
     // However many bytes are mapped, all of them are the memory's.
     ensures lent { IfOk result (λ v. IsLentOf (H.memory handler.now) v.claim) }
     ensures table { Gives (λ v. shown_by v.claim) result (own_accepted accept (H.memory handler.now) address) }
+    // It depends on the table's header and, if this has the names and the least length, on the table.
+    ensures footprint { let m = H.memory handler.now in
+        Footprint m (own_accepted_ranges accept m address) (λ n. own_accepted accept n address)
+        (Gives (λ v. shown_by v.claim) result) }
 {
     let head = Claim::request(handler, address, SdtHeader::MIN_LENGTH)?;
     let signature = Signature::leading(head.shown());
@@ -332,6 +378,7 @@ pub fn own_valid_by<'h, H: Lender>(
 ///
 /// Fails as `map_table` does for a type with that signature, the least length 36 and these checks.
 #[inline(always)]
+#[tactic(auto, using(crate::proofs::OwnTable::same_table))]
 pub fn map_sdt<'h, H: Lender>(
     handler: &'h H,
     address: u64,
@@ -347,6 +394,10 @@ pub fn map_sdt<'h, H: Lender>(
     ensures ends { IfOk result (λ m. start_of m + length (bytes_of m) < 2 ^ 64) }
     ensures table { Gives (λ m. bytes_of m) result
         (table_at (H.memory handler.now) (plain_kind signature) address) }
+    // It depends on the table's header and, if this has the names and the least length, on the table.
+    ensures footprint { let m = H.memory handler.now in
+        Footprint m (table_ranges m (plain_kind signature) address) (λ n. table_at n (plain_kind signature) address)
+        (Gives (λ m. bytes_of m) result) }
 {
     let valid = valid_by(handler, address, signature, SdtHeader::MIN_LENGTH, 0)?;
     Ok(valid.mapping())
@@ -357,6 +408,7 @@ pub fn map_sdt<'h, H: Lender>(
 ///
 /// Fails as `map_sdt` does for that signature.
 #[inline(always)]
+#[tactic(auto, using(crate::proofs::OwnTable::same_own_table))]
 pub fn map_own_sdt<'h, H: Lender>(
     handler: &'h H,
     address: u64,
@@ -368,6 +420,10 @@ pub fn map_own_sdt<'h, H: Lender>(
     ensures lent { IfOk result (λ m. IsOfMemory (H.memory handler.now) m) }
     ensures short { IfOk result (λ m. length (bytes_of m) < 2 ^ 32) }
     ensures table { Gives (λ m. bytes_of m) result (own_table_at (H.memory handler.now) address) }
+    // It depends on the table's header and, if this has the names and the least length, on the table.
+    ensures footprint { let m = H.memory handler.now in
+        Footprint m (own_table_ranges m address) (λ n. own_table_at n address)
+        (Gives (λ m. bytes_of m) result) }
 {
     let valid = own_valid_by(handler, address, 0)?;
     Ok(valid.mapping())

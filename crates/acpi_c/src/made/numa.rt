@@ -29,6 +29,21 @@ pub extern "C" fn zacpi_1_list_memory_affinities(
     answer(srat_entries(source, out), count, named)
 }
 
+/// Lists the items of zacpi_list_memory_affinities from the `from`-th on, from 0 on; `count` is of all.
+#[unsafe(no_mangle)]
+pub extern "C" fn zacpi_1_list_memory_affinities_from(
+    source: &Source<'_>,
+    from: usize,
+    out: &mut [MemoryAffinity],
+    count: &mut usize,
+    named: &mut Signature,
+) -> u32
+    ensures { AnswersListFrom from result out.old out.new count.old count.new named.old named.new
+        (below_srat source.now memory_shown) }
+{
+    answer(srat_entries_from(source, from, out), count, named)
+}
+
 /// Lists the processors that the SRAT puts into domains, those that the MADT lacks too: its entries of Types 0, 2 and 3
 /// that are enabled (bit 0 of Flags), up to where no entry begins; of several for one processor the last counts.
 #[unsafe(no_mangle)]

@@ -13,5 +13,6 @@ pub(crate) fn generic_record(a: &acpi_base::address::GenericAddress) -> GenericA
         bit_width: a.bit_width,
         bit_offset: a.bit_offset,
         access_size: a.access_size.code(),
+        reserved: [0; 4],
     }
 }

@@ -5,12 +5,13 @@ use crate::records::Register;
 
 /// `struct zacpi_gpe_block`.
 #[repr(C)]
-#[derive(Clone, Copy, Default)]
+#[derive(Clone, Copy)]
 pub struct GpeBlock {
     pub address: u64,
     pub space: u8,
     pub byte_length: u8,
     pub present: u8,
+    pub reserved: [u8; 5],
 }
 
 /// `struct zacpi_fixed_hardware`.
@@ -56,6 +57,7 @@ pub struct FixedHardware {
     pub reset_value: u8,
     pub revision: u8,
     pub minor_revision: u8,
+    pub reserved: [u8; 3],
     pub hypervisor_id: u64,
 }
 
@@ -70,7 +72,7 @@ pub struct Console {
     pub pci_flags: u32,
     pub pci_device_id: u16,
     pub pci_vendor_id: u16,
-    pub interface: u8,
+    pub interface_type: u8,
     pub irq: u8,
     pub has_irq: u8,
     pub has_global_system_interrupt: u8,
@@ -81,6 +83,7 @@ pub struct Console {
     pub pci_bus: u8,
     pub pci_device: u8,
     pub pci_function: u8,
+    pub reserved: u8,
 }
 
 /// `struct zacpi_ecam_range`.
@@ -91,4 +94,5 @@ pub struct EcamRange {
     pub length: u64,
     pub segment_group: u16,
     pub present: u8,
+    pub reserved: [u8; 5],
 }

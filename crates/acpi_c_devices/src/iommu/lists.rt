@@ -94,6 +94,7 @@ impl Listing<(), DmarScope> for DeviceScopeIter<'_> {
             enumeration_id: scope.enumeration_id(),
             bus: scope.start_bus(),
             path,
+            reserved: [0; 4],
         })
     }
 }
@@ -189,6 +190,7 @@ impl Listing<(), IvrsEntry> for DeviceEntryIter<'_> {
             compatible_id: hid_part(&entry, 12), // Compatible ID
             unique_id_format: entry.unique_id_format().unwrap_or(0),
             unique_id: filled(unique_id, 0),
+            reserved: 0,
         })
     }
 }

@@ -9,6 +9,7 @@ pub use acpi_iommu::Hop;
 pub struct DmarFlags {
     pub address_bits: u16,
     pub flags: u8,
+    pub reserved: u8,
 }
 
 /// `struct zacpi_dmar_unit`.
@@ -21,6 +22,7 @@ pub struct DmarUnit {
     pub includes_pci_all: u8,
     pub flags: u8,
     pub size: u8,
+    pub reserved: [u8; 3],
 }
 
 /// `struct zacpi_dmar_scope`.
@@ -33,6 +35,7 @@ pub struct DmarScope {
     pub enumeration_id: u8,
     pub bus: u8,
     pub path: [Hop; 16],
+    pub reserved: [u8; 4],
 }
 
 /// `struct zacpi_dmar_source`.
@@ -43,6 +46,7 @@ pub struct DmarSource {
     pub bus: u8,
     pub hop: Hop,
     pub has_hop: u8,
+    pub reserved: [u8; 4],
 }
 
 /// `struct zacpi_dmar_reserved`.
@@ -52,6 +56,7 @@ pub struct DmarReserved {
     pub base: u64,
     pub limit: u64,
     pub segment: u16,
+    pub reserved: [u8; 6],
 }
 
 /// `struct zacpi_dmar_root_ports`.
@@ -69,6 +74,7 @@ pub struct DmarRootPorts {
 pub struct DmarAffinity {
     pub register_base: u64,
     pub domain: u32,
+    pub reserved: [u8; 4],
 }
 
 /// `struct zacpi_ivrs_unit`.
@@ -85,6 +91,7 @@ pub struct IvrsUnit {
     pub block_type: u8,
     pub flags: u8,
     pub has_extended_features: u8,
+    pub reserved: u8,
 }
 
 /// `struct zacpi_ivrs_device`.
@@ -94,6 +101,7 @@ pub struct IvrsDevice {
     pub unit: IvrsUnit,
     pub source_id: u16,
     pub settings: u8,
+    pub reserved: [u8; 5],
 }
 
 /// `struct zacpi_ivrs_memory`.
@@ -106,6 +114,7 @@ pub struct IvrsMemory {
     pub auxiliary: u16,
     pub block_type: u8,
     pub flags: u8,
+    pub reserved: [u8; 2],
 }
 
 /// `struct zacpi_ivrs_entry`.
@@ -125,4 +134,5 @@ pub struct IvrsEntry {
     pub compatible_id: [u8; 8],
     pub unique_id_format: u8,
     pub unique_id: [u8; 32],
+    pub reserved: u8,
 }

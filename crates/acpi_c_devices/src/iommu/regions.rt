@@ -108,6 +108,7 @@ impl DmarRecord for DmarAffinity {
             DmarFields::Rhsa(unit) => Some(DmarAffinity {
                 register_base: unit.register_base,
                 domain: unit.domain,
+                reserved: [0; 4],
             }),
             _ => None,
         }

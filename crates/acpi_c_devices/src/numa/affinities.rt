@@ -116,6 +116,7 @@ impl SratRecord for GenericInitiator {
                     is_architectural: it.has_architectural_transactions() as u8,
                     handle_type: it.handle_type,
                     handle: it.device_handle,
+                    reserved: [0; 2],
                 };
                 counted_if(it.flags, device)
             }

@@ -10,6 +10,7 @@ pub struct MemoryAffinity {
     pub domain: u32,
     pub is_hot_pluggable: u8,
     pub is_non_volatile: u8,
+    pub reserved: [u8; 2],
 }
 
 /// `struct zacpi_processor_affinity`.
@@ -20,6 +21,7 @@ pub struct ProcessorAffinity {
     pub domain: u32,
     pub clock_domain: u32,
     pub entry_type: u8,
+    pub reserved: [u8; 3],
 }
 
 /// `struct zacpi_generic_initiator`.
@@ -30,6 +32,7 @@ pub struct GenericInitiator {
     pub is_architectural: u8,
     pub handle_type: u8,
     pub handle: [u8; 16],
+    pub reserved: [u8; 2],
 }
 
 /// `struct zacpi_its_affinity`.
@@ -46,4 +49,5 @@ pub struct ItsAffinity {
 pub struct Localities {
     pub localities: u64,
     pub is_sane: u8,
+    pub reserved: [u8; 7],
 }

@@ -12,6 +12,7 @@ pub struct Step {
     pub value: u32,
     pub width: u8,
     pub kind: u8,
+    pub reserved: [u8; 6],
 }
 
 /// `struct zacpi_plan`.
@@ -20,6 +21,7 @@ pub struct Step {
 pub struct Plan {
     pub steps: [Step; 8],
     pub count: u32,
+    pub reserved: [u8; 4],
 }
 
 /// `struct zacpi_sleep_types`.

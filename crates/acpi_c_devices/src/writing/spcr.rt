@@ -62,7 +62,7 @@ pub fn contents<'a>(given: &SpcrContents) -> acpi_writer::SpcrContents<'a>
 {
     let console = &given.console;
     acpi_writer::SpcrContents {
-        interface_type: SpcrInterfaceType::from(console.interface),
+        interface_type: SpcrInterfaceType::from(console.interface_type),
         base_address: base(&console.base),
         interrupt_type: SpcrInterruptType::from_bits_retain(interrupt_type(given)),
         irq: console.irq,

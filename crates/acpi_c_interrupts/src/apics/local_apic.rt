@@ -22,6 +22,7 @@ pub fn local_apic(source: &Source<'_>) -> Result<LocalApic, Refusal>
     Ok(LocalApic {
         address: address_in(&madt),
         also_has_8259: madt.supports_8259() as u8,
+        reserved: [0; 7],
     })
 }
 

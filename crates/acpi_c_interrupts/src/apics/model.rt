@@ -1,5 +1,5 @@
 //! What there is of interrupts and processors in all.
-ghost use Rattle.std.specs.Prelude.{◌≡◌, Some};
+ghost use Rattle.std.specs.Prelude.{◌≡◌, Some, None};
 ghost use Rattle.acpi_base.specs.Items as items;
 ghost use Rattle.acpi_base.specs.Words.{bytes_of, items_of};
 ghost use Rattle.acpi_c_interrupts.specs.Words.{below_platform, counts_of, model_by};
@@ -20,7 +20,24 @@ pub fn model(source: &Source<'_>) -> Result<InterruptModel, Refusal>
     let tables = open(&memory, source)?;
     match apic_madt(&tables)? {
         Some(found) => Ok(known_model(&found)),
-        None => Ok(InterruptModel::default()),
+        None => Ok(unknown_model()),
+    }
+}
+
+/// The model of a machine whose MADT describes no APICs: zeros.
+fn unknown_model() -> InterruptModel
+    ensures { result ≡ counts_of (model_by None) }
+{
+    InterruptModel {
+        local_apic_address: 0,
+        io_apics: 0,
+        overrides: 0,
+        nmi_sources: 0,
+        nmi_lines: 0,
+        processors: 0,
+        known: 0,
+        also_has_8259: 0,
+        reserved: [0; 6],
     }
 }
 
@@ -40,5 +57,6 @@ pub(crate) fn known_model<H: Lender>(found: &ApicMadt<'_, H>) -> InterruptModel
         processors: found.counts.processors,
         known: 1,
         also_has_8259: found.madt.supports_8259() as u8,
+        reserved: [0; 6],
     }
 }

@@ -3,7 +3,7 @@
 
 /// `struct zacpi_interrupt_model`.
 #[repr(C)]
-#[derive(Clone, Copy, Default)]
+#[derive(Clone, Copy)]
 pub struct InterruptModel {
     pub local_apic_address: u64,
     pub io_apics: usize,
@@ -13,6 +13,7 @@ pub struct InterruptModel {
     pub processors: usize,
     pub known: u8,
     pub also_has_8259: u8,
+    pub reserved: [u8; 6],
 }
 
 /// `struct zacpi_local_apic`.
@@ -21,15 +22,17 @@ pub struct InterruptModel {
 pub struct LocalApic {
     pub address: u64,
     pub also_has_8259: u8,
+    pub reserved: [u8; 7],
 }
 
 /// `struct zacpi_io_apic`.
 #[repr(C)]
-#[derive(Clone, Copy, Default)]
+#[derive(Clone, Copy)]
 pub struct IoApic {
     pub address: u32,
     pub global_system_interrupt_base: u32,
     pub id: u8,
+    pub reserved: [u8; 3],
 }
 
 /// `struct zacpi_interrupt_source_override`.
@@ -50,6 +53,7 @@ pub struct NmiSource {
     pub global_system_interrupt: u32,
     pub polarity: u8,
     pub trigger: u8,
+    pub reserved: [u8; 2],
 }
 
 /// `struct zacpi_nmi_line`.
@@ -93,16 +97,17 @@ pub struct PlatformLists<'a> {
 
 /// `struct zacpi_interrupt`.
 #[repr(C)]
-#[derive(Clone, Copy, Default)]
+#[derive(Clone, Copy)]
 pub struct Interrupt {
     pub global_system_interrupt: u32,
     pub polarity: u8,
     pub trigger: u8,
+    pub reserved: [u8; 2],
 }
 
 /// `struct zacpi_io_apic_pin`.
 #[repr(C)]
-#[derive(Clone, Copy, Default)]
+#[derive(Clone, Copy)]
 pub struct IoApicPin {
     pub io_apic: IoApic,
     pub pin: u32,
@@ -110,12 +115,13 @@ pub struct IoApicPin {
 
 /// `struct zacpi_isa_route`.
 #[repr(C)]
-#[derive(Clone, Copy, Default)]
+#[derive(Clone, Copy)]
 pub struct IsaRoute {
     pub interrupt: Interrupt,
     pub pin: IoApicPin,
     pub present: u8,
     pub has_pin: u8,
+    pub reserved: [u8; 2],
 }
 
 /// `struct zacpi_isa_interrupts`.

@@ -9,6 +9,7 @@ pub struct GicDistributor {
     pub id: u32,
     pub system_vector_base: u32,
     pub version: u8,
+    pub reserved: [u8; 7],
 }
 
 /// `struct zacpi_gic_cpu_interface`.
@@ -33,6 +34,7 @@ pub struct GicCpuInterface {
     pub performance_trigger: u8,
     pub maintenance_trigger: u8,
     pub efficiency_class: u8,
+    pub reserved: [u8; 3],
 }
 
 /// `struct zacpi_gic_translation_service`.
@@ -41,6 +43,7 @@ pub struct GicCpuInterface {
 pub struct GicTranslationService {
     pub address: u64,
     pub id: u32,
+    pub reserved: [u8; 4],
 }
 
 /// `struct zacpi_gic_msi_frame`.
@@ -52,6 +55,7 @@ pub struct GicMsiFrame {
     pub spi_base: u16,
     pub spi_count: u16,
     pub has_spis: u8,
+    pub reserved: [u8; 7],
 }
 
 /// `struct zacpi_arm_timer`.
@@ -77,6 +81,7 @@ pub struct ArmTimers {
     pub el2: ArmTimer,
     pub virtual_el2: ArmTimer,
     pub platform_timers_malformed: u8,
+    pub reserved: [u8; 7],
 }
 
 /// `struct zacpi_gt_frame`.
@@ -95,6 +100,7 @@ pub struct GtFrame {
     pub virtual_trigger: u8,
     pub is_secure: u8,
     pub is_always_on: u8,
+    pub reserved: u8,
 }
 
 /// `struct zacpi_watchdog`.
@@ -107,4 +113,5 @@ pub struct Watchdog {
     pub polarity: u8,
     pub trigger: u8,
     pub is_secure: u8,
+    pub reserved: u8,
 }

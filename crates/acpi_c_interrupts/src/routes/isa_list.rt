@@ -7,7 +7,7 @@ ghost use Rattle.acpi_c_interrupts.specs.Words.{isa_in, isa_list_below, isa_numb
 
 use crate::apics::apics;
 use crate::apics::madt::io_apic_record;
-use crate::apics::records::{Interrupt, IoApicPin, IsaInterrupts, IsaRoute};
+use crate::apics::records::{self, Interrupt, IoApicPin, IsaInterrupts, IsaRoute};
 use crate::routes::io_apic;
 use crate::routes::wirings::Wirings;
 use acpi::platform::interrupt::IoApic;
@@ -89,6 +89,7 @@ fn meet(route: IsaRoute, io_apic: &IoApic) -> IsaRoute
         pin,
         present: 1,
         has_pin: 1,
+        reserved: [0; 2],
     }
 }
 
@@ -100,8 +101,34 @@ fn without_pin(interrupt: Result<Interrupt, Refusal>) -> IsaRoute
         Ok(interrupt) => IsaRoute {
             interrupt,
             present: 1,
-            ..IsaRoute::default()
+            ..no_route()
         },
-        Err(_) => IsaRoute::default(),
+        Err(_) => no_route(),
+    }
+}
+
+/// No interrupt: zeros.
+fn no_route() -> IsaRoute
+    ensures { result ≡ no_route }
+{
+    IsaRoute {
+        interrupt: Interrupt {
+            global_system_interrupt: 0,
+            polarity: 0,
+            trigger: 0,
+            reserved: [0; 2],
+        },
+        pin: IoApicPin {
+            io_apic: records::IoApic {
+                address: 0,
+                global_system_interrupt_base: 0,
+                id: 0,
+                reserved: [0; 3],
+            },
+            pin: 0,
+        },
+        present: 0,
+        has_pin: 0,
+        reserved: [0; 2],
     }
 }

@@ -21,7 +21,7 @@
 //! after `-`, and a number 0 whose KIND ends with `?` has no words in a line.
 
 use crate::fields::{bits_of, name_of, print_hex};
-use crate::language::{cut_at, next_word, number_at, number_of, range_of, sum_of};
+use crate::language::{cut_at, next_word, number_at, number_of, range_of, size, sum_of};
 use crate::out::Out;
 
 /// The value of a part.
@@ -115,11 +115,11 @@ pub fn part_of<'a>(line: &'static str, bytes: &'a [u8]) -> Option<Part<'a>> {
     let (content, words) = match kind {
         "hex" | "hex?" => (Content::Hex(number), rest),
         "dec" | "dec?" => (Content::Decimal(number), rest),
-        "byte?" => (Content::Decimal(number_at(bytes, number as usize, 1)), rest),
+        "byte?" => (Content::Decimal(number_at(bytes, size(number), 1)), rest),
         "bits" => (Content::Bits(number), rest),
         "word" | "word?" => (word_in(number, rest)?, ""),
         "code" => (word_or(name_of(number, rest), number), ""),
-        _ => list_in(kind, number as usize, rest, bytes)?,
+        _ => list_in(kind, size(number), rest, bytes)?,
     };
     let (content, is_shown) = match content {
         Content::Hex(0) | Content::Decimal(0) => (content, !kind.ends_with('?')),
@@ -146,7 +146,7 @@ fn word_in<'a>(number: u64, rest: &'static str) -> Option<Content<'a>> {
     let (low, rest) = next_word(rest);
     let (high, words) = next_word(rest);
     let part = bits_of(number, number_of(low)?, number_of(high)?);
-    let word = words.split('|').nth(part as usize).unwrap_or("");
+    let word = words.split('|').nth(size(part)).unwrap_or("");
     Some(word_or(word, part))
 }
 
@@ -173,7 +173,7 @@ fn list_in<'a>(
     }
     let (end, rest) = next_word(rest);
     let end = match sum_of(end, bytes) {
-        Ok(end) => (end as usize).min(bytes.len()),
+        Ok(end) => size(end).min(bytes.len()),
         Err(_) => bytes.len(),
     };
     let found = bytes.get(start..end).unwrap_or(&[]);
@@ -181,7 +181,7 @@ fn list_in<'a>(
         return Some((Content::Bytes(found), rest));
     }
     let (width, rest) = next_word(rest);
-    Some((Content::Numbers(found, number_of(width)? as usize), rest))
+    Some((Content::Numbers(found, size(number_of(width)?)), rest))
 }
 
 /// Prints a value.

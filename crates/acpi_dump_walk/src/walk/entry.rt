@@ -4,7 +4,7 @@ ghost use Rattle.std.specs.Prelude.{◌<◌, IfOk};
 
 use super::parts::{Piece, after_zero};
 use crate::fault::Fault;
-use crate::language::{Block, next_word, number_of, places_end, sum_of};
+use crate::language::{Block, next_word, number_of, places_end, size, sum_of};
 
 /// What is known of an entry.
 #[derive(Clone, Copy)]
@@ -47,7 +47,7 @@ pub(super) fn next_entry(piece: Piece<'_>, rest: &[u8], how: &'static str) -> Re
         // The structure tells it, so all bytes of the entry have to be there.
         "each" => {
             let length = sum_of(first, piece.bytes)?;
-            (length, length as usize)
+            (length, size(length))
         }
         "own" => (sum_of(first, rest)?, places_end(first)),
         "typed" => {
@@ -100,7 +100,7 @@ fn typed_entry(
 fn checked_length(rest: &[u8], length: u64, end: usize) -> Result<usize, Fault>
     ensures { IfOk result (λ size. 0 < size) }
 {
-    let (size, least) = (length as usize, end.max(1));
+    let (size, least) = (size(length), end.max(1));
     if rest.len() < least {
         Err(Fault::Cut)
     } else if size < least {

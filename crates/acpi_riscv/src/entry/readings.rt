@@ -16,6 +16,7 @@ pub(crate) fn rintc_at(bytes: &[u8]) -> Rintc
         external_interrupt_controller_id: field(bytes, 20, 4) as u32, // External Interrupt Controller ID
         imsic_address: field(bytes, 24, 8), // IMSIC Base Address
         imsic_size: field(bytes, 32, 4) as u32, // IMSIC Size
+        reserved: [0; 7],
     }
 }
 
@@ -31,6 +32,7 @@ pub(crate) fn imsic_at(bytes: &[u8]) -> Imsic
         hart_index_bits: field(bytes, 13, 1) as u8, // Hart Index Bits
         group_index_bits: field(bytes, 14, 1) as u8, // Group Index Bits
         group_index_shift: field(bytes, 15, 1) as u8, // Group Index Shift
+        reserved: [0; 3],
     }
 }
 
@@ -47,6 +49,7 @@ pub(crate) fn aplic_at(bytes: &[u8]) -> Aplic
         global_system_interrupt_base: field(bytes, 20, 4) as u32, // Global System Interrupt Base
         address: field(bytes, 24, 8), // APLIC Address
         size: field(bytes, 32, 4) as u32, // APLIC Size
+        reserved: [0; 6],
     }
 }
 
@@ -63,5 +66,6 @@ pub(crate) fn plic_at(bytes: &[u8]) -> Plic
         size: field(bytes, 20, 4) as u32, // PLIC Size
         address: field(bytes, 24, 8), // PLIC Address
         global_system_interrupt_base: field(bytes, 32, 4) as u32, // Global System Interrupt Vector Base
+        reserved: [0; 6],
     }
 }

@@ -27,12 +27,11 @@ pub(super) fn answer(out: Out<'_>, bytes: &[u8], call: &str) {
 /// Blocks of timers, each with its address and its frames, and watchdogs, and whether they end malformed.
 fn platform(out: Out<'_>, mut timers: PlatformTimerIter<'_>) {
     for timer in timers.by_ref() {
-        match timer {
-            PlatformTimer::SbsaWatchdog(watchdog) => out.show(&watchdog),
-            PlatformTimer::GtBlock(block) => {
-                out.show(&("block", block.address));
-                out.list(block.frames);
-            }
+        if let PlatformTimer::SbsaWatchdog(watchdog) = timer {
+            out.show(&watchdog);
+        } else if let PlatformTimer::GtBlock(block) = timer {
+            out.show(&("block", block.address));
+            out.list(block.frames);
         }
     }
     out.show(&timers.ended_malformed());

@@ -125,7 +125,7 @@ fn of_model<A: Allocator + Copy>(
         Ok((model, processors)) if call == "model" => print_model(out, &model, &processors),
         Ok((model, _processors)) => match &model {
             InterruptModel::Apic(apic) => of_apics(out, apic, call, id_of(rest)),
-            InterruptModel::Unknown => out.print(&"unknown model"),
+            _ => out.print(&"unknown model"),
         },
     }
 }

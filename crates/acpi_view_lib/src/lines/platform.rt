@@ -60,8 +60,8 @@ fn print_model<A: Allocator>(model: &InterruptModel<A>, text: &mut String) -> Re
     ensures { OnOk result (string_bytes text.new ≡ string_bytes text.old ++ model_lines model.now) }
 {
     match model {
-        InterruptModel::Unknown => text.push_str("model unknown\n"),
         InterruptModel::Apic(apic) => print_apic(apic, text),
+        _ => text.push_str("model unknown\n"),
     }
 }
 

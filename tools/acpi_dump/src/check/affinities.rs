@@ -6,6 +6,7 @@ use crate::check::numbers::{Kept, Numbers};
 use crate::check::pieces::Pieces;
 use crate::check::rules::rules;
 use crate::check::spans::{Span, overlaps};
+use acpi_programs::walk::language::size;
 use acpi_programs::walk::share::share_of;
 use zacpi::base::bytes::skip;
 use zacpi::base::entries::split_front;
@@ -132,7 +133,7 @@ fn add_processors(madt: &[u8], numbers: &mut Numbers) -> bool {
     for (offset, entry) in Pieces::of(madt, 44, (1, 1)) {
         let kind = field(entry, 0, 1);
         has_sapic |= kind == 7;
-        let least = MADT_GRAMMAR.layout.least_lengths.get(kind as usize);
+        let least = MADT_GRAMMAR.layout.least_lengths.get(size(kind));
         if entry.len() >= least.copied().unwrap_or(0) {
             numbers.add(&PROCESSORS, offset, entry);
         }
@@ -206,8 +207,16 @@ fn domain_of(entry: &SratEntry) -> (u32, usize) {
         SratEntry::Memory(it) => (it.domain, 2),
         SratEntry::LocalX2Apic(it) => (it.domain, 4),
         SratEntry::Gicc(it) => (it.domain, 2),
-        SratEntry::GicIts(it) => (it.domain, 2),
         SratEntry::GenericInitiator(it) | SratEntry::GenericPort(it) => (it.domain, 4),
+        other => (its_domain(other), 2),
+    }
+}
+
+/// The domain of an entry of an Interrupt Translation Service, the type that is left.
+fn its_domain(entry: &SratEntry) -> u32 {
+    match entry {
+        SratEntry::GicIts(it) => it.domain,
+        _ => 0,
     }
 }
 
@@ -250,7 +259,7 @@ pub(crate) fn check_distances(slit: &[u8], findings: &mut Findings) {
         };
         let row = count.saturating_mul(from).saturating_add(44);
         if own != 10 {
-            let at = row.saturating_add(from) as usize;
+            let at = size(row.saturating_add(from));
             findings.add(&SLIT_DIAGONAL, at, &[from, own as u64]);
         }
         let (mut is_low, mut is_other) = (false, false);
@@ -258,7 +267,7 @@ pub(crate) fn check_distances(slit: &[u8], findings: &mut Findings) {
             let Some(distance) = distances.distance(from, to) else {
                 break;
             };
-            let (at, distance) = (row.saturating_add(to) as usize, distance as u64);
+            let (at, distance) = (size(row.saturating_add(to)), distance as u64);
             if distance < 10 && from != to && !is_low {
                 findings.add(&SLIT_RESERVED_DISTANCE, at, &[to, distance, from]);
                 is_low = true;

@@ -15,6 +15,7 @@ use crate::check::rules::rules;
 use acpi_programs::input::entries::{Entry, own_signature};
 use acpi_programs::input::status::Status;
 use acpi_programs::walk::fields::print_path;
+use acpi_programs::walk::language::size;
 use acpi_programs::walk::walk::has_aml;
 use names::Names;
 use zacpi::sdt::Signature;
@@ -159,7 +160,7 @@ fn add_table<'a>(number: usize, entry: &Entry<'a>, names: &mut Names<'a>, findin
     {
         findings.table = number;
         why.print(&mut findings.text);
-        findings.end(&TABLE_MALFORMED, offset as usize);
+        findings.end(&TABLE_MALFORMED, size(offset));
     }
 }
 

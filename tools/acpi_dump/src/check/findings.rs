@@ -5,6 +5,7 @@ use crate::check::rules::{Finding, Rule};
 use crate::text::text_of;
 use acpi_programs::input::entries::{Entry, own_signature};
 use acpi_programs::rattle::alloc::Global;
+use acpi_programs::walk::language::size;
 use acpi_programs::walk::out::Out;
 use acpi_programs::walk::walk::{Field, Show, walk_table};
 use core::fmt::Display;
@@ -57,7 +58,7 @@ impl Findings {
             if let Some((same, repeated, other)) = before
                 && same == *list
                 && repeated == *number
-                && let Some(rule) = rules.get(*list as usize)
+                && let Some(rule) = rules.get(size(*list))
             {
                 self.add(rule, *offset, &[repeated, other as u64]);
             }

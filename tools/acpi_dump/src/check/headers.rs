@@ -8,7 +8,7 @@ use acpi_programs::input::status::Status;
 use acpi_programs::rattle::Pieces;
 use acpi_programs::walk::fault::Fault;
 use acpi_programs::walk::fields::unnamed_in;
-use acpi_programs::walk::language::{cut_at, is_chosen, next_word, number_of};
+use acpi_programs::walk::language::{cut_at, is_chosen, next_word, number_of, size};
 use acpi_programs::walk::walk::{Field, Show, walk_table};
 use zacpi::AcpiError;
 use zacpi::sdt::field;
@@ -266,12 +266,12 @@ impl Show for Fields<'_> {
     fn malformed(&mut self, offset: u64, fault: Fault) {
         if self.is_whole {
             fault.print(offset, &mut self.findings.text);
-            self.findings.end(&TABLE_MALFORMED, offset as usize);
+            self.findings.end(&TABLE_MALFORMED, size(offset));
         }
     }
 
     fn field(&mut self, shown: &Field<'_>) {
-        let offset = shown.offset as usize;
+        let offset = size(shown.offset);
         if self.has_codes
             && let Some(number) = unnamed_in(shown)
         {

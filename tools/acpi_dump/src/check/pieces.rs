@@ -1,5 +1,6 @@
 //! The pieces of a table, one after the other, each of which has its length.
 
+use acpi_programs::walk::language::size;
 use zacpi::base::bytes::skip;
 use zacpi::sdt::field;
 
@@ -26,7 +27,7 @@ impl<'a> Iterator for Pieces<'a> {
 
     fn next(&mut self) -> Option<(usize, &'a [u8])> {
         let (at, width) = self.place;
-        let length = field(self.rest, at, width.min(8)) as usize;
+        let length = size(field(self.rest, at, width.min(8)));
         if length <= at || self.rest.len() < length {
             return None;
         }

@@ -21,7 +21,7 @@ use crate::check::rules::{Rule, rule_of};
 use acpi_programs::input::entries::own_signature;
 use acpi_programs::rattle::Pieces;
 use acpi_programs::walk::fields::{number_of as number_in, unnamed_in};
-use acpi_programs::walk::language::{cut_at, is_chosen, next_word, number_at, number_of};
+use acpi_programs::walk::language::{cut_at, is_chosen, next_word, number_at, number_of, size};
 use acpi_programs::walk::walk::{Field, Group, Show, walk_table};
 
 /// How many structures that are one in another have titles here, with the table, which is the outermost.
@@ -62,7 +62,7 @@ impl Row {
 
     /// Where its number begins in the field.
     fn start(&self) -> usize {
-        number_of(cut_at(self.place, ':').0).unwrap_or(0) as usize
+        size(number_of(cut_at(self.place, ':').0).unwrap_or(0))
     }
 
     /// Whether it is about a field of a structure with a title.
@@ -86,7 +86,7 @@ impl Row {
 fn number_from(bytes: &[u8], place: &str) -> u64 {
     let (offset, length) = cut_at(place, ':');
     match (number_of(offset), number_of(length)) {
-        (Some(offset), Some(length)) => number_at(bytes, offset as usize, length as usize),
+        (Some(offset), Some(length)) => number_at(bytes, size(offset), size(length)),
         _ => number_in(bytes),
     }
 }
@@ -124,7 +124,7 @@ impl Show for Judged<'_> {
         let (rows, mut list) = (self.rows, 1u64);
         for row in rows {
             if row.is_of(group.name, "") {
-                self.numbers.push(list, group.offset, group.offset as usize);
+                self.numbers.push(list, group.offset, size(group.offset));
             }
             list += 2;
         }
@@ -135,7 +135,7 @@ impl Show for Judged<'_> {
     }
 
     fn field(&mut self, shown: &Field<'_>) {
-        let (title, offset) = (self.title(), shown.offset as usize);
+        let (title, offset) = (self.title(), size(shown.offset));
         let (rows, mut list) = (self.rows, 0u64);
         for row in rows {
             let number = number_from(shown.bytes, row.place);
@@ -167,7 +167,7 @@ fn judge_numbers(rows: &[Row], numbers: &Numbers, findings: &mut Findings) {
     let mut before = (u64::MAX, 0u64, 0usize);
     for (list, number, offset) in numbers.all.iter() {
         let (list, number, offset) = (*list, *number, *offset);
-        let Some(row) = rows.get((list / 2) as usize) else {
+        let Some(row) = rows.get(size(list / 2)) else {
             break;
         };
         let is_wrong = if row.test == "once" {

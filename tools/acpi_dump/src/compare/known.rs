@@ -2,6 +2,7 @@
 
 use super::pairs::Key;
 use crate::compare::outline::{BYTES, Part, Side};
+use acpi_programs::walk::language::size;
 use acpi_programs::walk::out::Out;
 use zacpi::PhysicalRecord;
 use zacpi::sdt::SdtHeader;
@@ -30,7 +31,7 @@ impl<'a> Known<'a> {
 
     /// Between which offsets of its table its own bytes are, if they are at its end: a method's code.
     pub(super) fn code(&self) -> (usize, usize) {
-        let end = self.offset.saturating_add(self.length) as usize;
+        let end = size(self.offset.saturating_add(self.length));
         (end.saturating_sub(self.own.len()), end)
     }
 

@@ -2,6 +2,7 @@
 
 mod items;
 
+use acpi_programs::walk::language::size;
 use acpi_programs::walk::out::Out;
 use acpi_programs::walk::walk::DEEPEST;
 use core::ops::Range;
@@ -87,8 +88,8 @@ impl<'a> Side<'a> {
 
     /// The bytes at an offset of the table, of this length, or none if they aren't all there.
     pub fn bytes(self, offset: u64, length: u64) -> &'a [u8] {
-        let end = offset.saturating_add(length) as usize;
-        self.table.get(offset as usize..end).unwrap_or(&[])
+        let end = size(offset.saturating_add(length));
+        self.table.get(size(offset)..end).unwrap_or(&[])
     }
 
     /// The bytes of an item, unless its value has all of them: those of an object that has no objects in it.

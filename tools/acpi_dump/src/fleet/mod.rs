@@ -133,7 +133,7 @@ fn run(matches: &ArgMatches) -> u8 {
     }
     let request = Request { base: matches.get_str("base"), ignored, most };
     let style = if matches.get_flag("json") { Style::Json } else { Style::Text };
-    let mut out = std::io::BufWriter::new(std::io::stdout());
+    let mut out = std::io::BufWriter::new(acpi_programs::rattle::HostRuntime::new().stdout());
     let printed = gather_and_print(matches, &request, style, &mut out);
     match printed.and_then(|status| out.flush().map(|()| status)) {
         Ok(status) => status,

@@ -9,6 +9,7 @@ use acpi_programs::code::text::CodeText;
 use acpi_programs::code::{Extent, list_code};
 use acpi_programs::rattle::Pieces;
 use acpi_programs::rattle::alloc::Global;
+use acpi_programs::walk::language::size;
 use acpi_programs::walk::out::Out;
 
 /// What is before the operations, and after them.
@@ -34,7 +35,7 @@ pub(super) fn print_code(sheet: &Sheet<'_>, item: &Item, out: &mut Html) {
     if part.name != "Method" {
         return;
     }
-    let lines = printed(|text| print_operations(sheet, item, (start as usize, end as usize), text));
+    let lines = printed(|text| print_operations(sheet, item, (size(start), size(end)), text));
     out.markup(BEGIN);
     for line in lines.pieces('\n') {
         if !line.is_empty() {

@@ -8,7 +8,7 @@ use super::matrices::print_matrices;
 use super::sheet::{Sheet, classes_of};
 use super::tile::Tile;
 use super::values::print_digest;
-use acpi_programs::walk::language::{next_word, number_at, number_of};
+use acpi_programs::walk::language::{next_word, number_at, number_of, size};
 use acpi_programs::walk::share::share_of;
 use zacpi::base::model::IsaOverrides;
 use zacpi::platform::interrupt::{InterruptSourceOverride, Polarity, TriggerMode};
@@ -74,7 +74,7 @@ fn tile_of(sheet: &Sheet<'_>, kind: u64, entry: &[u8], unit: usize) -> Option<u6
 /// Whether a processor whose flags are at an offset isn't enabled.
 fn is_off(entry: &[u8], offset: &str) -> bool {
     match number_of(offset) {
-        Some(flags) => number_at(entry, flags as usize, 4) & 1 == 0,
+        Some(flags) => number_at(entry, size(flags), 4) & 1 == 0,
         None => false,
     }
 }
@@ -188,8 +188,8 @@ fn print_title(sheet: &Sheet<'_>, kind: u64, number: u64, out: &mut Html) {
         return out.words(domain, &[number % 6, number]);
     }
     out.markup("<figure class=\"tile\"><div><figcaption><h3>");
-    let title = TITLES.get(kind as usize).unwrap_or(&"");
-    print_line(sheet, number as usize, title, out);
+    let title = TITLES.get(size(kind)).unwrap_or(&"");
+    print_line(sheet, size(number), title, out);
     out.markup("</h3>")
 }
 

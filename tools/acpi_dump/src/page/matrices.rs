@@ -4,6 +4,7 @@ use super::escape::Html;
 use super::escape::Piece::{Decimal, Printed, Text};
 use super::sheet::{Sheet, classes_of};
 use super::tile::Tile;
+use acpi_programs::walk::language::size;
 use acpi_programs::walk::matrix::{Matrix, matrix_of};
 
 /// How many rows and columns of a matrix are drawn at most.
@@ -81,7 +82,7 @@ fn add_value(sheet: &Sheet<'_>, offset: u64, matrix: Matrix<'_>, place: (usize, 
         Some(value) => {
             tile.text.words("%", &[value]);
             let steps = value.saturating_sub(least).saturating_mul(2) / least.max(1);
-            STEPS.get(steps as usize).copied().unwrap_or("k4")
+            STEPS.get(size(steps)).copied().unwrap_or("k4")
         }
         None => {
             tile.text.markup("-");

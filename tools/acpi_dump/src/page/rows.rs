@@ -12,7 +12,7 @@ use super::values::{print_change, print_digest, print_reference, print_value, st
 use crate::compare::outline::{BYTES, Item, MALFORMED, Part};
 use crate::text::printed;
 use acpi_programs::input::entries::header_of;
-use acpi_programs::walk::language::number_at;
+use acpi_programs::walk::language::{number_at, size};
 use zacpi::sdt::SdtHeader;
 
 /// From how many structures of one name in a row on they are in a fold.
@@ -231,7 +231,7 @@ impl Rows<'_, '_, '_> {
     /// The table that a field has the address of, if it is on the page.
     fn target_of(&self, item: &Item) -> Option<ids::Id> {
         let table = self.sheet.entry.bytes;
-        let address = number_at(table, item.offset as usize, item.length as usize);
+        let address = number_at(table, size(item.offset), size(item.length));
         let is_number = self.sheet.side.digits(item).starts_with("0x");
         if item.length < 4 || address == 0 || !is_number {
             return None;

@@ -6,7 +6,7 @@ use super::escape::{Piece, word_if};
 use super::ids;
 use crate::compare::outline::{BYTES, Item, MALFORMED, Part, Side};
 use acpi_programs::rattle::Pieces;
-use acpi_programs::walk::language::{next_word, number_at};
+use acpi_programs::walk::language::{next_word, number_at, size};
 use zacpi::sdt::Signature;
 
 /// From how many letters on a meaning is in a box of a few lines.
@@ -36,7 +36,7 @@ pub(super) fn structure_of(signature: Signature, side: Side<'_>, item: &Item) ->
     if !is_reference(signature, item.name) {
         return None;
     }
-    let offset = number_at(side.table, item.offset as usize, item.length as usize);
+    let offset = number_at(side.table, size(item.offset), size(item.length));
     let parts = side.parts;
     for part in parts {
         if part.offset == offset && offset > 0 {

@@ -85,8 +85,8 @@ fn add_model(
         add_processors(facts, &info.boot_processor, others, srat);
     }
     match model {
-        InterruptModel::Unknown => facts.begin("", "interrupts\tnot described by local APICs", &[]),
         InterruptModel::Apic(apic) => add_apic(facts, apic),
+        _ => facts.begin("", "interrupts\tnot described by local APICs", &[]),
     }
 }
 

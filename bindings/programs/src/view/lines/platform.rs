@@ -42,8 +42,8 @@ fn print_info<A: Allocator>(platform: &PlatformInfo<A>, text: &mut String) -> Re
 /// `model unknown`, or the lines of the APICs.
 fn print_model<A: Allocator>(model: &InterruptModel<A>, text: &mut String) -> Result<(), AllocError> {
     match model {
-        InterruptModel::Unknown => text.push_str("model unknown\n"),
         InterruptModel::Apic(apic) => print_apic(apic, text),
+        _ => text.push_str("model unknown\n"),
     }
 }
 

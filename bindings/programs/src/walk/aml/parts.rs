@@ -23,7 +23,7 @@
 
 use crate::rattle::Pieces;
 use crate::walk::fields::{bits_of, name_of, print_hex};
-use crate::walk::language::{cut_at, next_word, number_at, number_of, range_of, sum_of};
+use crate::walk::language::{cut_at, next_word, number_at, number_of, range_of, size, sum_of};
 use crate::walk::out::Out;
 
 /// The value of a part.
@@ -107,11 +107,11 @@ pub fn part_of<'a>(line: &'static str, bytes: &'a [u8]) -> Option<Part<'a>> {
     let (content, words) = match kind {
         "hex" | "hex?" => (Content::Hex(number), rest),
         "dec" | "dec?" => (Content::Decimal(number), rest),
-        "byte?" => (Content::Decimal(number_at(bytes, number as usize, 1)), rest),
+        "byte?" => (Content::Decimal(number_at(bytes, size(number), 1)), rest),
         "bits" => (Content::Bits(number), rest),
         "word" | "word?" => (word_in(number, rest)?, ""),
         "code" => (word_or(name_of(number, rest), number), ""),
-        _ => list_in(kind, number as usize, rest, bytes)?,
+        _ => list_in(kind, size(number), rest, bytes)?,
     };
     let (content, is_shown) = match content {
         Content::Hex(0) | Content::Decimal(0) => (content, !kind.ends_with('?')),
@@ -130,7 +130,7 @@ fn word_in<'a>(number: u64, rest: &'static str) -> Option<Content<'a>> {
     let (low, rest) = next_word(rest);
     let (high, words) = next_word(rest);
     let part = bits_of(number, number_of(low)?, number_of(high)?);
-    let word = words.pieces('|').nth(part as usize).unwrap_or("");
+    let word = words.pieces('|').nth(size(part)).unwrap_or("");
     Some(word_or(word, part))
 }
 
@@ -148,7 +148,7 @@ fn list_in<'a>(kind: &str, start: usize, rest: &'static str, bytes: &'a [u8]) ->
     }
     let (end, rest) = next_word(rest);
     let end = match sum_of(end, bytes) {
-        Ok(end) => (end as usize).min(bytes.len()),
+        Ok(end) => size(end).min(bytes.len()),
         Err(_) => bytes.len(),
     };
     let found = bytes.get(start..end).unwrap_or(&[]);
@@ -156,7 +156,7 @@ fn list_in<'a>(kind: &str, start: usize, rest: &'static str, bytes: &'a [u8]) ->
         return Some((Content::Bytes(found), rest));
     }
     let (width, rest) = next_word(rest);
-    Some((Content::Numbers(found, number_of(width)? as usize), rest))
+    Some((Content::Numbers(found, size(number_of(width)?)), rest))
 }
 
 /// Prints a value.

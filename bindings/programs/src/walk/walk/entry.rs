@@ -4,7 +4,7 @@
 use super::parts::{Piece, after_zero};
 use crate::rattle::Pieces;
 use crate::walk::fault::Fault;
-use crate::walk::language::{Block, next_word, number_of, places_end, sum_of};
+use crate::walk::language::{Block, next_word, number_of, places_end, size, sum_of};
 
 /// What is known of an entry.
 #[derive(Clone, Copy)]
@@ -45,7 +45,7 @@ pub(super) fn next_entry(piece: Piece<'_>, rest: &[u8], how: &'static str) -> Re
         // The structure tells it, so all bytes of the entry have to be there.
         "each" => {
             let length = sum_of(first, piece.bytes)?;
-            (length, length as usize)
+            (length, size(length))
         }
         "own" => (sum_of(first, rest)?, places_end(first)),
         "typed" => {
@@ -86,7 +86,7 @@ fn typed_entry(
 
 /// A length of an entry, if it is at least 1, covers the bytes up to an end, and is at most what is left.
 fn checked_length(rest: &[u8], length: u64, end: usize) -> Result<usize, Fault> {
-    let (size, least) = (length as usize, end.max(1));
+    let (size, least) = (size(length), end.max(1));
     if rest.len() < least {
         Err(Fault::Cut)
     } else if size < least {

@@ -3,7 +3,7 @@
 
 use super::{Field, Show};
 use crate::walk::fault::Fault;
-use crate::walk::language::{Blocks, Label, cut_at, number_of, sum_of};
+use crate::walk::language::{Blocks, Label, cut_at, number_of, size, sum_of};
 
 /// A structure: where it begins in the table, its bytes, and the blocks that its layout is of.
 #[derive(Clone, Copy)]
@@ -16,8 +16,8 @@ pub(super) struct Piece<'a> {
 /// Where a part of a structure begins and ends, and how many elements it has if they are counted.
 #[derive(Clone, Copy)]
 pub(super) struct Extent {
-    pub(super) start: usize,
-    pub(super) end: usize,
+    pub(super) start: u64,
+    pub(super) end: u64,
     pub(super) count: Option<u64>,
 }
 
@@ -57,11 +57,11 @@ pub(super) fn after_zero(bytes: &[u8], start: usize) -> usize {
 
 /// Where elements end that begin at an offset of a structure, and how many they are, by the word in their brackets: a
 /// count, `*` for as many as fit, or `~` and the length of all.
-pub(super) fn list_extent(bytes: &[u8], start: usize, word: &'static str) -> Result<Extent, Fault> {
+pub(super) fn list_extent(bytes: &[u8], start: u64, word: &'static str) -> Result<Extent, Fault> {
     let word = word.trim_end_matches(['}', ']']);
-    let (mut end, mut count) = (bytes.len(), None);
+    let (mut end, mut count) = (bytes.len() as u64, None);
     match word.strip_prefix('~') {
-        Some(length) => end = start.saturating_add(sum_of(length, bytes)? as usize),
+        Some(length) => end = start.saturating_add(sum_of(length, bytes)?),
         None if word == "*" => {}
         None => count = Some(sum_of(word, bytes)?),
     }
@@ -73,16 +73,17 @@ pub(super) fn list_extent(bytes: &[u8], start: usize, word: &'static str) -> Res
 ///
 /// Fails if it begins before what is shown ends, or is outside the structure.
 pub(super) fn show_start<S: Show>(piece: Piece<'_>, shown: usize, extent: Extent, show: &mut S) -> Result<bool, Fault> {
+    let length = piece.bytes.len() as u64;
     if extent.is_empty() {
         Ok(false)
-    } else if extent.start < shown {
-        Err(Fault::Before(extent.start as u64))
-    } else if piece.bytes.len() < extent.start {
-        Err(Fault::Outside(extent.start as u64))
-    } else if piece.bytes.len() < extent.end {
-        Err(Fault::Beyond(extent.end as u64))
+    } else if extent.start < shown as u64 {
+        Err(Fault::Before(extent.start))
+    } else if length < extent.start {
+        Err(Fault::Outside(extent.start))
+    } else if length < extent.end {
+        Err(Fault::Beyond(extent.end))
     } else {
-        show_gap(piece, shown, extent.start, show);
+        show_gap(piece, shown, size(extent.start), show);
         Ok(true)
     }
 }
@@ -107,7 +108,7 @@ pub(super) fn show_gap<S: Show>(piece: Piece<'_>, start: usize, end: usize, show
 pub(super) fn show_fields<S: Show>(
     piece: Piece<'_>,
     shown: usize,
-    start: usize,
+    start: u64,
     is_fixed: bool,
     word: &'static str,
     rest: &'static str,
@@ -122,21 +123,21 @@ pub(super) fn show_fields<S: Show>(
         list_extent(piece.bytes, start, count)?
     };
     let is_optional = is_fixed && is_one && number_of(length).is_some();
-    let is_there = shown <= start && extent.end <= piece.bytes.len();
+    let is_there = shown as u64 <= start && extent.end <= piece.bytes.len() as u64;
     if is_optional && !is_there || !show_start(piece, shown, extent, show)? {
         return Ok(shown);
     }
-    let length = if is_one { extent.end.saturating_sub(start) } else { sum_of(length, piece.bytes)? as usize };
-    Ok(show_each(piece, extent, length, is_one, label, show))
+    let length = if is_one { extent.end.saturating_sub(start) } else { sum_of(length, piece.bytes)? };
+    Ok(show_each(piece, extent, size(length), is_one, label, show))
 }
 
 /// Where a field ends that is at an offset of a structure, by the word for its length.
-fn field_end(bytes: &[u8], start: usize, word: &'static str) -> Result<usize, Fault> {
+fn field_end(bytes: &[u8], start: u64, word: &'static str) -> Result<u64, Fault> {
     match (word, word.strip_prefix('<')) {
-        ("*", _) => Ok(bytes.len()),
-        ("z", _) => Ok(after_zero(bytes, start)),
-        (_, Some(end)) => Ok(sum_of(end, bytes)? as usize),
-        _ => Ok(start.saturating_add(sum_of(word, bytes)? as usize)),
+        ("*", _) => Ok(bytes.len() as u64),
+        ("z", _) => Ok(after_zero(bytes, size(start)) as u64),
+        (_, Some(end)) => sum_of(end, bytes),
+        _ => Ok(start.saturating_add(sum_of(word, bytes)?)),
     }
 }
 
@@ -150,11 +151,11 @@ fn show_each<S: Show>(
     label: Label,
     show: &mut S,
 ) -> usize {
-    let (mut shown, mut number) = (extent.start, 0u64);
+    let (mut shown, mut number) = (size(extent.start), 0u64);
     if length == 0 {
         return shown;
     }
-    let all = piece.bytes.get(shown..extent.end).unwrap_or(&[]);
+    let all = piece.bytes.get(shown..size(extent.end)).unwrap_or(&[]);
     for bytes in all.chunks(length) {
         if extent.is_more(number) && bytes.len() == length {
             show.field(&Field { offset: piece.at(shown), bytes, number: (!is_one).then_some(number), label });

@@ -6,6 +6,7 @@ use core::fmt;
 
 /// The errors of `MappedRegion::new` and `MappedRegions::new`: why regions are no memory.
 #[derive(Clone, Copy, Debug, PartialEq, Eq)]
+#[non_exhaustive]
 pub enum RegionError {
     /// A region's start and its length in bytes add up to more than 2^64 - 1.
     EndTooLarge,
@@ -32,7 +33,7 @@ impl fmt::Display for RegionError {
 /// The caller keeps three things. The bytes are the physical memory's from `start` on. They stay
 /// mapped as long as the handler is used, which the compiler checks by `'k`. And nobody writes to them
 /// meanwhile, neither the firmware nor another processor. The first and the last can't be checked here.
-#[derive(Clone, Copy)]
+#[derive(Clone, Copy, Debug)]
 pub struct MappedRegion<'k> {
     pub(super) start: u64,
     pub(super) bytes: &'k [u8],

@@ -8,7 +8,7 @@ use crate::base::{AcpiError, AcpiHandler, AcpiResult};
 /// has mapped. Two regions that adjoin are still two: a range across their border is not mapped.
 ///
 /// The caller keeps for each region the three things that `MappedRegion` names.
-#[derive(Clone, Copy)]
+#[derive(Clone, Copy, Debug)]
 pub struct MappedRegions<'k> {
     regions: &'k [MappedRegion<'k>],
 }

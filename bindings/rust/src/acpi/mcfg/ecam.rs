@@ -37,7 +37,7 @@ impl<A: Allocator> PciConfigRegions<A> {
 
 /// The memory that the configuration space of each region takes, in the order of the table, as
 /// `PciConfigRegions::ecam_ranges` returns it: each region's segment group, and its range, if it has one.
-#[derive(Clone)]
+#[derive(Clone, Debug)]
 pub struct EcamRanges<'a> {
     regions: &'a [McfgEntry],
 }

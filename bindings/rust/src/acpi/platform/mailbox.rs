@@ -5,6 +5,7 @@ use crate::base::AcpiResult;
 
 /// One write to a field of a Multiprocessor Wakeup Mailbox (section 5.2.12.19).
 #[derive(Clone, Copy, Debug, PartialEq, Eq)]
+#[non_exhaustive]
 pub enum MailboxWrite {
     /// Command: what the firmware is to do.
     Command(u16),
@@ -16,6 +17,7 @@ pub enum MailboxWrite {
 
 /// One call of a Multiprocessor Wakeup Mailbox (section 5.2.12.19): it is opened, written to, or read.
 #[derive(Clone, Copy, Debug, PartialEq, Eq)]
+#[non_exhaustive]
 pub enum MailboxCall {
     /// The mailbox was opened at this physical address.
     Opened(u64),

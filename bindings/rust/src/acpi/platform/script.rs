@@ -7,6 +7,7 @@ use crate::base::AcpiResult;
 /// A `Mailbox` (section 5.2.12.19) for tests and dry runs. It can be opened at every address, and its reads
 /// return the numbers of its script, in order, and after these with 1 each time. It shows what was done to
 /// it: the first 32 calls, the address opened last, the writes since then, and how many reads there were.
+#[derive(Debug)]
 pub struct ScriptedMailbox<'a> {
     answers: &'a [u16],
     opened: Option<u64>,

@@ -37,25 +37,30 @@ fn candidates(area: &AddressRange) -> (u64, u64) {
 }
 
 /// Whether bytes contain a candidate's at an offset, and its own checks fail for these.
-fn is_refused_in(bytes: &[u8], offset: usize) -> bool {
+fn is_refused_in(bytes: &[u8], offset: usize, accept: u32) -> bool {
     let front = skip(bytes, offset);
     if front.len() < 36 {
         return false;
     }
     let candidate = &front[..36];
-    Rsdp::read(candidate).summed_length(candidate).is_err()
+    Rsdp::read(candidate).summed_length(candidate, accept).is_err()
 }
 
 /// The RSDP at an address, if it is valid, or else how many candidates from there on are invalid,
 /// as far as is known from what was mapped there: each 16 bytes after the one before.
-fn candidate_at<'h, H: Lender>(handler: &'h H, address: u64, left: u64) -> Result<PhysicalMapping<'h, H, Rsdp>, u64> {
+fn candidate_at<'h, H: Lender>(
+    handler: &'h H,
+    address: u64,
+    left: u64,
+    accept: u32,
+) -> Result<PhysicalMapping<'h, H, Rsdp>, u64> {
     match PhysicalMapping::<'h, H, Rsdp>::map(handler, address, 36) {
-        Ok(rsdp) => match check_mapped(handler, &rsdp) {
+        Ok(rsdp) => match check_mapped(handler, &rsdp, accept) {
             Ok(()) => Ok(rsdp),
             Err(_) => {
                 // The bytes that were mapped with its own may show that the ones after it are invalid too.
                 let bytes = rsdp.lent_bytes();
-                let other = (1..left).find(|k| !is_refused_in(bytes, 16 * *k as usize));
+                let other = (1..left).find(|k| !is_refused_in(bytes, 16 * *k as usize, accept));
                 Err(other.unwrap_or(left))
             }
         },
@@ -64,10 +69,15 @@ fn candidate_at<'h, H: Lender>(handler: &'h H, address: u64, left: u64) -> Resul
 }
 
 /// The first valid one of a number of candidates from an address on.
-fn first_valid<'h, H: Lender>(handler: &'h H, first: u64, count: u64) -> Option<PhysicalMapping<'h, H, Rsdp>> {
+fn first_valid<'h, H: Lender>(
+    handler: &'h H,
+    first: u64,
+    count: u64,
+    accept: u32,
+) -> Option<PhysicalMapping<'h, H, Rsdp>> {
     let mut passed = 0;
     while passed < count {
-        match candidate_at(handler, first + 16 * passed, count - passed) {
+        match candidate_at(handler, first + 16 * passed, count - passed, accept) {
             Ok(found) => return Some(found),
             Err(refused) => passed += refused,
         }
@@ -76,18 +86,26 @@ fn first_valid<'h, H: Lender>(handler: &'h H, first: u64, count: u64) -> Option<
 }
 
 /// The first valid candidate of an area.
-fn first_of_area<'h, H: Lender>(handler: &'h H, area: &AddressRange) -> Option<PhysicalMapping<'h, H, Rsdp>> {
+fn first_of_area<'h, H: Lender>(
+    handler: &'h H,
+    area: &AddressRange,
+    accept: u32,
+) -> Option<PhysicalMapping<'h, H, Rsdp>> {
     let (first, count) = candidates(area);
     if count == 0 {
         return None;
     }
-    first_valid(handler, first, count)
+    first_valid(handler, first, count, accept)
 }
 
 /// The first valid candidate of the areas, in their order. Fails with `NoValidRsdp` if there is none.
-fn first_of_areas<'h, H: Lender>(handler: &'h H, areas: &[AddressRange]) -> AcpiResult<PhysicalMapping<'h, H, Rsdp>> {
+fn first_of_areas<'h, H: Lender>(
+    handler: &'h H,
+    areas: &[AddressRange],
+    accept: u32,
+) -> AcpiResult<PhysicalMapping<'h, H, Rsdp>> {
     for area in areas {
-        if let Some(found) = first_of_area(handler, area) {
+        if let Some(found) = first_of_area(handler, area, accept) {
             return Ok(found);
         }
     }
@@ -112,6 +130,18 @@ impl Rsdp {
         handler: &'h H,
         areas: &[AddressRange],
     ) -> AcpiResult<PhysicalMapping<'h, H, Rsdp>> {
-        first_of_areas(handler, areas)
+        Rsdp::search_in_accepting(handler, areas, 0)
+    }
+
+    /// The RSDP that the bits of `accept` accept, in areas that the caller passes: as `search_in` finds the first valid
+    /// one. `read_accepted` reads it.
+    ///
+    /// Fails as `search_in` does.
+    pub fn search_in_accepting<'h, H: Lender>(
+        handler: &'h H,
+        areas: &[AddressRange],
+        accept: u32,
+    ) -> AcpiResult<PhysicalMapping<'h, H, Rsdp>> {
+        first_of_areas(handler, areas, accept)
     }
 }

@@ -1,12 +1,13 @@
 // Made by scripts/erase of crates/acpi/src/rsdp/bios.rt, where it is proved.
 //! The search for the RSDP in the firmware's areas, on systems that boot by a BIOS (section 5.2.5.1).
 
-use super::{RawBytes, Rsdp, map_rsdp};
+use super::{RawBytes, Rsdp, map_accepted_rsdp};
 use crate::base::bytes::{filled_in, u16_in};
 use crate::base::{AcpiError, AcpiResult, Lender, PhysicalMapping};
 
 /// An area of physical memory in which firmware may put the RSDP (section 5.2.5.1).
-#[derive(Clone, Copy)]
+#[derive(Clone, Copy, Debug)]
+#[non_exhaustive]
 pub struct Area {
     /// Its first address.
     pub start: u64,
@@ -36,7 +37,12 @@ fn has_signature(bytes: &[u8], offset: usize) -> bool {
 }
 
 /// The least valid candidate of an area that is mapped, with the 16 bytes after it, as these bytes.
-fn first_candidate<'h, H: Lender>(handler: &'h H, area: Area, bytes: &[u8]) -> Option<PhysicalMapping<'h, H, Rsdp>> {
+fn first_candidate<'h, H: Lender>(
+    handler: &'h H,
+    area: Area,
+    bytes: &[u8],
+    accept: u32,
+) -> Option<PhysicalMapping<'h, H, Rsdp>> {
     let candidates = (area.end - area.start - 4) / 16;
     for k in 0..candidates {
         let offset = 16 * k;
@@ -44,7 +50,7 @@ fn first_candidate<'h, H: Lender>(handler: &'h H, area: Area, bytes: &[u8]) -> O
         if !has_signature(bytes, offset as usize) {
             continue;
         }
-        if let Ok(found) = map_rsdp(handler, area.start + offset) {
+        if let Ok(found) = map_accepted_rsdp(handler, area.start + offset, accept) {
             return Some(found);
         }
     }
@@ -54,10 +60,14 @@ fn first_candidate<'h, H: Lender>(handler: &'h H, area: Area, bytes: &[u8]) -> O
 /// The least valid candidate of an area, if it has one.
 ///
 /// Fails with `MapFailed` if the area isn't mapped with the 16 bytes after it.
-fn search_area<'h, H: Lender>(handler: &'h H, area: Area) -> AcpiResult<Option<PhysicalMapping<'h, H, Rsdp>>> {
+fn search_area<'h, H: Lender>(
+    handler: &'h H,
+    area: Area,
+    accept: u32,
+) -> AcpiResult<Option<PhysicalMapping<'h, H, Rsdp>>> {
     let length = (area.end - area.start + 16) as usize;
     let mapping = PhysicalMapping::<'h, H, RawBytes>::map(handler, area.start, length)?;
-    Ok(first_candidate(handler, area, mapping.bytes()))
+    Ok(first_candidate(handler, area, mapping.bytes(), accept))
 }
 
 /// The word at 40:0Eh of the BIOS data area, the segment of the EBDA: it names the second area.
@@ -70,8 +80,8 @@ fn area_word<H: Lender>(handler: &H) -> AcpiResult<u16> {
 ///
 /// Fails with `MapFailed` if the area isn't mapped with the 16 bytes after it, and with `NoValidRsdp` if no
 /// candidate is left.
-fn search_last<'h, H: Lender>(handler: &'h H, area: Area) -> AcpiResult<PhysicalMapping<'h, H, Rsdp>> {
-    search_area(handler, area)?.ok_or(AcpiError::NoValidRsdp)
+fn search_last<'h, H: Lender>(handler: &'h H, area: Area, accept: u32) -> AcpiResult<PhysicalMapping<'h, H, Rsdp>> {
+    search_area(handler, area, accept)?.ok_or(AcpiError::NoValidRsdp)
 }
 
 impl Rsdp {
@@ -93,10 +103,21 @@ impl Rsdp {
     /// Fails with `MapFailed` if the word or an area that is requested isn't mapped, and with
     /// `NoValidRsdp` if no candidate is left.
     pub fn search_for_on_bios<'h, H: Lender>(handler: &'h H) -> AcpiResult<PhysicalMapping<'h, H, Rsdp>> {
+        Rsdp::search_for_on_bios_accepting(handler, 0)
+    }
+
+    /// The RSDP that the bits of `accept` accept, of a system that boots by a BIOS: as `search_for_on_bios` finds the
+    /// first valid one. `read_accepted` reads it.
+    ///
+    /// Fails as `search_for_on_bios` does.
+    pub fn search_for_on_bios_accepting<'h, H: Lender>(
+        handler: &'h H,
+        accept: u32,
+    ) -> AcpiResult<PhysicalMapping<'h, H, Rsdp>> {
         match area_word(handler) {
-            Ok(word) => match search_area(handler, FIRST_AREA) {
+            Ok(word) => match search_area(handler, FIRST_AREA, accept) {
                 Ok(Some(found)) => Ok(found),
-                Ok(None) => search_last(handler, second_area(word)),
+                Ok(None) => search_last(handler, second_area(word), accept),
                 Err(error) => Err(error),
             },
             Err(error) => Err(error),

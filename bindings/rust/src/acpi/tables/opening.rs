@@ -4,7 +4,7 @@
 use super::AcpiTables;
 use crate::acpi::policy::{Policy, Valid};
 use crate::acpi::root::{RootKind, RootPointer};
-use crate::acpi::rsdp::{Rsdp, map_rsdp};
+use crate::acpi::rsdp::{Rsdp, map_accepted_rsdp, read_accepted};
 use crate::base::sdt::SdtHeader;
 use crate::base::table::valid_by;
 use crate::base::{AcpiResult, AddressRange, Lender, PhysicalMapping, PhysicalRecord};
@@ -19,7 +19,7 @@ impl<'h, H: Lender> AcpiTables<'h, H> {
     /// revision 0, the length is under 36, `MapFailed` if that many bytes aren't lent, and
     /// `RsdpInvalidChecksum` if they don't sum to 0 modulo 256. Then it refuses as `from_rsdt` does.
     pub fn from_rsdp(handler: &'h H, address: u64) -> AcpiResult<Self> {
-        AcpiTables::from_root(handler, map_rsdp(handler, address)?)
+        AcpiTables::from_rsdp_accepting(handler, address, Valid)
     }
 
     /// The tables below the root table of the RSDP that `Rsdp::search_for_on_bios` finds (section
@@ -28,7 +28,7 @@ impl<'h, H: Lender> AcpiTables<'h, H> {
     ///
     /// Fails first as that search does, with `MapFailed` or `NoValidRsdp`, and then as `from_rsdt` does.
     pub fn search_for_rsdp_bios(handler: &'h H) -> AcpiResult<Self> {
-        AcpiTables::from_root(handler, Rsdp::search_for_on_bios(handler)?)
+        AcpiTables::search_for_rsdp_bios_accepting(handler, Valid)
     }
 
     /// The tables below the root table of the RSDP that `Rsdp::search_in` finds in these areas (section
@@ -37,7 +37,7 @@ impl<'h, H: Lender> AcpiTables<'h, H> {
     ///
     /// Fails first as that search does, with `NoValidRsdp`, and then as `from_rsdt` does.
     pub fn search_in(handler: &'h H, areas: &[AddressRange]) -> AcpiResult<Self> {
-        AcpiTables::from_root(handler, Rsdp::search_in(handler, areas)?)
+        AcpiTables::search_in_accepting(handler, areas, Valid)
     }
 
     /// The tables below the root table that a valid RSDP leads to (sections 5.2.5.3, 5.2.7 and 5.2.8). Of
@@ -49,16 +49,9 @@ impl<'h, H: Lender> AcpiTables<'h, H> {
         let address = mapping.physical_start();
         drop(mapping);
         match PhysicalMapping::map(handler, address, Rsdp::MIN_LENGTH) {
-            Ok(rsdp) => AcpiTables::from_root(handler, rsdp),
+            Ok(rsdp) => AcpiTables::open_read(handler, rsdp, Valid),
             Err(error) => Err(error),
         }
-    }
-
-    /// The tables below the root table that an RSDP leads to, which is unmapped first.
-    fn from_root(handler: &'h H, rsdp: PhysicalMapping<'h, H, Rsdp>) -> AcpiResult<Self> {
-        let root_pointer = rsdp.get().root();
-        drop(rsdp);
-        AcpiTables::open(handler, root_pointer)
     }
 
     /// The tables below the root table at a physical address: an RSDT, with pointers of four bytes, for
@@ -70,18 +63,13 @@ impl<'h, H: Lender> AcpiTables<'h, H> {
     /// aren't lent, and `SdtInvalidChecksum` if they don't sum to 0 modulo 256.
     pub fn from_rsdt(handler: &'h H, revision: u8, address: u64) -> AcpiResult<Self> {
         let root_pointer = RootPointer { revision, kind: RootKind::of_revision(revision), address };
-        AcpiTables::open(handler, root_pointer)
-    }
-
-    /// The tables below a root table.
-    fn open(handler: &'h H, root_pointer: RootPointer) -> AcpiResult<Self> {
         AcpiTables::open_accepting(handler, root_pointer, Valid)
     }
 }
 
 impl<'h, H: Lender, P: Policy> AcpiTables<'h, H, P> {
     /// The tables below a root table (sections 5.2.7 and 5.2.8), which is accepted by a policy, as then its members
-    /// are. `RsdpMapping::root` has the root table that an RSDP leads to.
+    /// are. `Rsdp::root` has the root table that an RSDP leads to.
     ///
     /// Fails as `from_rsdt` does, but for the checks that the policy gives up.
     pub fn open_accepting(handler: &'h H, root_pointer: RootPointer, policy: P) -> AcpiResult<Self> {
@@ -96,5 +84,37 @@ impl<'h, H: Lender, P: Policy> AcpiTables<'h, H, P> {
             }),
             Err(error) => Err(error),
         }
+    }
+
+    /// The tables below the root table that the RSDP at a physical address leads to, which a policy accepts, as then the
+    /// root table and its members are: by `map_accepted_rsdp`, `read_accepted` and `open_accepting`.
+    ///
+    /// Fails as `from_rsdp` does, but for the checks that the policy gives up.
+    pub fn from_rsdp_accepting(handler: &'h H, address: u64, policy: P) -> AcpiResult<Self> {
+        let rsdp = map_accepted_rsdp(handler, address, policy.bits())?;
+        AcpiTables::open_read(handler, rsdp, policy)
+    }
+
+    /// The tables below the root table of the RSDP that `Rsdp::search_for_on_bios_accepting` finds by a policy.
+    ///
+    /// Fails as `search_for_rsdp_bios` does, but for the checks that the policy gives up.
+    pub fn search_for_rsdp_bios_accepting(handler: &'h H, policy: P) -> AcpiResult<Self> {
+        let rsdp = Rsdp::search_for_on_bios_accepting(handler, policy.bits())?;
+        AcpiTables::open_read(handler, rsdp, policy)
+    }
+
+    /// The tables below the root table of the RSDP that `Rsdp::search_in_accepting` finds by a policy.
+    ///
+    /// Fails as `search_in` does, but for the checks that the policy gives up.
+    pub fn search_in_accepting(handler: &'h H, areas: &[AddressRange], policy: P) -> AcpiResult<Self> {
+        let rsdp = Rsdp::search_in_accepting(handler, areas, policy.bits())?;
+        AcpiTables::open_read(handler, rsdp, policy)
+    }
+
+    /// The tables below the root table that an accepted RSDP leads to, which is unmapped first.
+    fn open_read(handler: &'h H, rsdp: PhysicalMapping<'h, H, Rsdp>, policy: P) -> AcpiResult<Self> {
+        let root_pointer = read_accepted(handler, &rsdp, policy.bits()).root();
+        drop(rsdp);
+        AcpiTables::open_accepting(handler, root_pointer, policy)
     }
 }

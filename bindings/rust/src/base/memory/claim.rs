@@ -7,6 +7,7 @@ use crate::base::memory::handler::Lender;
 /// Bytes that a handler mapped, and how many of them are shown. A claim is no `Drop`, so the compiler rejects a path
 /// that lets one go out of scope or ends one twice. Only `end`, `widen` and the drop of a mapping take one apart. The
 /// notice has the range that was granted.
+#[derive(Debug)]
 pub(crate) struct Claim<'h, H: Lender> {
     pub(super) start: u64,
     pub(super) lent: &'h [u8],

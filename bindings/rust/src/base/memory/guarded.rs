@@ -9,6 +9,7 @@ use crate::base::memory::handler::Lender;
 /// requested of the other one. Of a handler any range may be requested.
 ///
 /// Nothing is tested when it runs: a call over it is proved only if it requests no range that isn't listed.
+#[derive(Debug)]
 pub struct Guarded<'h, H: Lender> {
     handler: &'h H,
     ranges: &'h [(u64, usize)],

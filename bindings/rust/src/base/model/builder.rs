@@ -14,6 +14,7 @@ use crate::base::memory::handler::PhysicalRecord;
 use crate::base::tables::madt::{LocalApicEntry, LocalX2ApicEntry, Madt};
 
 /// The model that the entries so far describe.
+#[derive(Debug)]
 pub(super) struct ModelBuilder<A: Allocator> {
     local_apic_address: u64,
     has_legacy_pics: bool,

@@ -10,7 +10,8 @@ use crate::base::tables::madt::{MADT_GRAMMAR, Madt};
 
 /// How many items of each sort the entries have, whether any entry is of a model of APICs, and where the local APICs
 /// lie.
-#[derive(Clone, Copy)]
+#[derive(Clone, Copy, Debug)]
+#[non_exhaustive]
 pub struct Counts {
     /// The processors, the boot processor among them: Processor Local APIC and Local x2APIC entries.
     pub processors: usize,

@@ -135,6 +135,7 @@ pub struct NmiSource {
 }
 
 /// The model of APICs: one local APIC for each processor, and I/O APICs (ACPI 6.4, section 5.2.12).
+#[non_exhaustive]
 pub struct Apic<A: Allocator> {
     /// Local APIC Address: the physical address of each processor's local APIC. It is that of the last
     /// Local APIC Address Override, else the table's own.
@@ -168,6 +169,7 @@ impl<A: Allocator + TryClone> TryClone for Apic<A> {
 
 /// The controllers that a machine's interrupts come to, as its MADT describes them (ACPI 6.4, section
 /// 5.2.12).
+#[non_exhaustive]
 pub enum InterruptModel<A: Allocator> {
     /// The tables describe no APICs: a PC then has the pair of 8259 controllers alone.
     Unknown,

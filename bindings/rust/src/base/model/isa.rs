@@ -9,6 +9,7 @@ use crate::alloc::Allocator;
 /// An interrupt as it comes to the I/O APICs: an ISA interrupt, or the one that carries the machine's events
 /// (sections 5.2.9 and 5.2.12.5).
 #[derive(Clone, Copy, Debug)]
+#[non_exhaustive]
 pub struct IsaInterrupt {
     /// Global System Interrupt: its number. `Apic::io_apic_for` returns the I/O APIC and the pin.
     pub global_system_interrupt: u32,

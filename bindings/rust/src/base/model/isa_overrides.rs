@@ -6,6 +6,7 @@ use super::isa::{IsaInterrupt, straight, wired};
 
 /// How Interrupt Source Overrides wire the 16 ISA interrupts (section 5.2.12.5). They are added one by one, in
 /// the table's order, so one walk along them is enough, and no list of them is needed.
+#[derive(Debug)]
 pub struct IsaOverrides {
     // Of each ISA interrupt its last override.
     own: [Option<InterruptSourceOverride>; 16],

@@ -13,8 +13,9 @@ use crate::base::tables::madt::{
 };
 
 /// The item of the interrupt model that an entry encodes, if nothing is wrong with it.
-#[derive(Clone, Copy)]
+#[derive(Clone, Copy, Debug)]
 #[repr(u8)]
+#[non_exhaustive]
 pub enum MadtItem {
     /// Processor Local APIC or Local x2APIC: there is a processor.
     Processor {

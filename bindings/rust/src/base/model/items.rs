@@ -12,6 +12,7 @@ use crate::base::tables::madt::{MADT_GRAMMAR, Madt};
 
 /// What the entries of a MADT say, in order. An entry that is refused, or whose type isn't defined,
 /// says nothing. It ends at the table's end, or if no entry begins there.
+#[derive(Debug)]
 pub struct MadtItems<'a> {
     rest: &'a [u8],
 }

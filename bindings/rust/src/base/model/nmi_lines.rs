@@ -6,6 +6,7 @@ use crate::alloc::Allocator;
 
 /// The LINT pins of one processor's local APIC that NMIs are connected to (ACPI 6.4, sections 5.2.12.7 and
 /// 5.2.12.13), in the order of their entries, as `Apic::local_nmi_lines_for` returns them.
+#[derive(Debug)]
 pub struct LocalNmiLines<'a> {
     lines: &'a [NmiLine],
     processor_uid: u32,

@@ -5,7 +5,8 @@ use super::interrupt::{Apic, IoApic};
 use crate::alloc::Allocator;
 
 /// A pin of an I/O APIC, that a global system interrupt comes to (section 5.2.12.3).
-#[derive(Clone, Copy)]
+#[derive(Clone, Copy, Debug)]
+#[non_exhaustive]
 pub struct IoApicPin<'a> {
     /// I/O APIC: the controller.
     pub io_apic: &'a IoApic,

@@ -43,6 +43,7 @@ fn claim_whole<'h, H: Lender>(
 
 /// The bytes of a table that is accepted for some type, as they are mapped: small, so that a walk along
 /// many addresses makes nothing as big as a record of the ones that it skips.
+#[derive(Debug)]
 pub struct ValidTable<'h, H: Lender> {
     claim: Claim<'h, H>,
 }
@@ -60,12 +61,20 @@ impl<'h, H: Lender> ValidTable<'h, H> {
     }
 }
 
+/// What the checks of bytes return for a table of type `T` whose header has the names, and a length that is their
+/// number.
+#[inline(always)]
+fn check_valid<T: AcpiTable>(bytes: &[u8]) -> AcpiResult<()> {
+    T::validate_rest(bytes)?;
+    T::check_own(bytes)
+}
+
 /// The bytes of the table whose header is claimed, if it is valid for `T`. No record is made of them here:
 /// they are small to pass on, and the record is read where it is to be.
 #[inline(never)]
 fn claim_valid<'h, H: Lender, T: AcpiTable>(head: Claim<'h, H>) -> AcpiResult<ValidTable<'h, H>> {
     let claim = claim_whole(head, T::SIGNATURE, T::MIN_LENGTH, 0)?;
-    match T::validate_rest(claim.shown()) {
+    match check_valid::<T>(claim.shown()) {
         Ok(()) => Ok(ValidTable { claim }),
         Err(error) => {
             claim.end();
@@ -83,7 +92,7 @@ pub fn valid_at<'h, H: Lender, T: AcpiTable>(handler: &'h H, address: u64) -> Ac
     claim_valid::<H, T>(head)
 }
 
-/// What is left of the result of a type's own check of a table's bytes by the bits of `accept`: by bit 0 an error of
+/// What is left of the result of a type's check of a table's bytes by the bits of `accept`: by bit 0 an error of
 /// the sum doesn't count, by bit 1 one of an id, after which only the sum is left to check.
 fn left_of(checked: AcpiResult<()>, signature: Signature, bytes: &[u8], accept: u32) -> AcpiResult<()> {
     match checked {
@@ -98,13 +107,19 @@ fn left_of(checked: AcpiResult<()>, signature: Signature, bytes: &[u8], accept: 
     }
 }
 
+/// What the checks of bytes return for `T` that are left by the bits of `accept`, of which some are set.
+fn check_accepted<T: AcpiTable>(bytes: &[u8], accept: u32) -> AcpiResult<()> {
+    let checked = T::read(bytes).validate(bytes);
+    left_of(checked, T::SIGNATURE, bytes, accept)?;
+    T::check_own(bytes)
+}
+
 /// The bytes of the table whose header is claimed, if by the bits of `accept`, of which some are set, it is accepted
 /// for `T`.
 #[inline(never)]
 fn claim_accepted<'h, H: Lender, T: AcpiTable>(head: Claim<'h, H>, accept: u32) -> AcpiResult<ValidTable<'h, H>> {
     let claim = claim_whole(head, T::SIGNATURE, T::MIN_LENGTH, accept)?;
-    let checked = T::read(claim.shown()).validate(claim.shown());
-    match left_of(checked, T::SIGNATURE, claim.shown(), accept) {
+    match check_accepted::<T>(claim.shown(), accept) {
         Ok(()) => Ok(ValidTable { claim }),
         Err(error) => {
             claim.end();
@@ -115,8 +130,8 @@ fn claim_accepted<'h, H: Lender, T: AcpiTable>(head: Claim<'h, H>, accept: u32) 
 
 /// The bytes of the table at a physical address, if it is accepted for `T` (section 5.2.6): if it is valid, or only
 /// checks fail that are given up. By bit 0 of `accept` its sum may be any, by bit 1 both of its ids, and by 0 it has to
-/// be valid. What `T::validate` checks besides stays: of its result an error of the sum or of an id doesn't count that
-/// is given up, and after one of an id only the sum is left to check.
+/// be valid. Of the result of `T::validate` an error of the sum or of an id doesn't count that is given up, and after one
+/// of an id only the sum is left to check. `T::check_own` stays.
 ///
 /// Fails as `map_table` does, but for those errors.
 #[inline(always)]

@@ -31,6 +31,7 @@ pub use walk::MadtEntryIter;
 /// The Multiple APIC Description Table (MADT, section 5.2.12, table 5.19). Its entries are after these
 /// fields; a mapping of it returns them.
 #[derive(Debug)]
+#[non_exhaustive]
 pub struct Madt {
     /// The header that every table begins with.
     pub header: SdtHeader,

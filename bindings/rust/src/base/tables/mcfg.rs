@@ -13,6 +13,7 @@ use crate::base::table::header::SdtHeader;
 /// The MCFG: regions of memory, each with the configuration space of some PCI buses. Section 5.2.6 reserves
 /// its signature, and its layout is the PCI Firmware Specification's (section 4.1.2). Its entries are after
 /// 44 fixed bytes; a mapping of it returns them.
+#[derive(Debug)]
 pub struct Mcfg {
     header: SdtHeader,
 }
@@ -36,6 +37,7 @@ pub struct McfgEntry {
 
 /// The entries of an MCFG, of 16 bytes each, in order (section 5.2.6 reserves the signature). A remainder
 /// that is shorter than an entry is none.
+#[derive(Debug)]
 pub struct McfgEntryIter<'a> {
     rest: &'a [u8],
 }

@@ -6,7 +6,7 @@ use crate::c_devices::devices::register_if;
 use crate::c_devices::fixed::records::Console;
 
 /// A table's fixed fields, and its Interface Type.
-pub(crate) fn console_record(t: &Spcr, interface: u8) -> Console {
+pub(crate) fn console_record(t: &Spcr, interface_type: u8) -> Console {
     Console {
         base: register_if(t.base_address()),
         baud_rate: t.baud_rate().unwrap_or(0),
@@ -15,7 +15,7 @@ pub(crate) fn console_record(t: &Spcr, interface: u8) -> Console {
         pci_flags: t.pci_flags,
         pci_device_id: t.pci_device_id().unwrap_or(0xffff),
         pci_vendor_id: t.pci_vendor_id().unwrap_or(0xffff),
-        interface,
+        interface_type,
         irq: t.irq().unwrap_or(0),
         has_irq: t.irq().is_some() as u8,
         has_global_system_interrupt: t.global_system_interrupt().is_some() as u8,
@@ -26,5 +26,6 @@ pub(crate) fn console_record(t: &Spcr, interface: u8) -> Console {
         pci_bus: t.pci_bus_number().unwrap_or(0),
         pci_device: t.pci_device_number().unwrap_or(0),
         pci_function: t.pci_function_number().unwrap_or(0),
+        reserved: 0,
     }
 }

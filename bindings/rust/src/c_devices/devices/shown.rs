@@ -10,5 +10,6 @@ pub(crate) fn generic_record(a: &crate::base::address::GenericAddress) -> Generi
         bit_width: a.bit_width,
         bit_offset: a.bit_offset,
         access_size: a.access_size.code(),
+        reserved: [0; 4],
     }
 }

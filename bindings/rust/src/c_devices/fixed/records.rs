@@ -17,6 +17,8 @@ pub struct GpeBlock {
     /// Present: 0: none, also if GPEn_BLK_LEN is 0. 1: there is one. 2: its Address Space ID is reserved; Access Size
     /// isn't looked at.
     pub present: u8,
+    /// Reserved: 0.
+    pub reserved: [u8; 5],
 }
 
 /// `struct zacpi_fixed_hardware`.
@@ -101,6 +103,8 @@ pub struct FixedHardware {
     pub revision: u8,
     /// FADT Minor Version: errata in bits 4 to 7.
     pub minor_revision: u8,
+    /// Reserved: 0.
+    pub reserved: [u8; 3],
     /// Hypervisor Vendor Identity; 0 below revision 6.
     pub hypervisor_id: u64,
 }
@@ -124,8 +128,8 @@ pub struct Console {
     pub pci_device_id: u16,
     /// PCI Vendor ID. 0xffff: no PCI device.
     pub pci_vendor_id: u16,
-    /// Interface: of `enum zacpi_console_type`.
-    pub interface: u8,
+    /// Interface type: of `enum zacpi_console_type`.
+    pub interface_type: u8,
     /// IRQ: on the 8259s; 0 unless it is there.
     pub irq: u8,
     /// Has IRQ: bit 0 of Interrupt Type is set.
@@ -146,11 +150,14 @@ pub struct Console {
     pub pci_device: u8,
     /// PCI Function Number.
     pub pci_function: u8,
+    /// Reserved: 0.
+    pub reserved: u8,
 }
 
 /// `struct zacpi_ecam_range`.
 #[repr(C)]
 #[derive(Clone, Copy, Debug, Default, PartialEq, Eq)]
+#[non_exhaustive]
 pub struct EcamRange {
     /// The physical address.
     pub address: u64,
@@ -160,4 +167,6 @@ pub struct EcamRange {
     pub segment_group: u16,
     /// Present: 0: the last bus is below the first, or the range ends at 2^64 or above.
     pub present: u8,
+    /// Reserved: 0.
+    pub reserved: [u8; 5],
 }

@@ -7,16 +7,20 @@ pub use crate::iommu::Hop;
 /// `struct zacpi_dmar_flags`.
 #[repr(C)]
 #[derive(Clone, Copy, Debug, Default, PartialEq, Eq)]
+#[non_exhaustive]
 pub struct DmarFlags {
     /// Host Address Width plus 1.
     pub address_bits: u16,
     /// Flags: of `enum zacpi_dmar_flag`.
     pub flags: u8,
+    /// Reserved: 0.
+    pub reserved: u8,
 }
 
 /// `struct zacpi_dmar_unit`.
 #[repr(C)]
 #[derive(Clone, Copy, Debug, Default, PartialEq, Eq)]
+#[non_exhaustive]
 pub struct DmarUnit {
     /// The physical address of its registers.
     pub register_base: u64,
@@ -30,11 +34,14 @@ pub struct DmarUnit {
     pub flags: u8,
     /// The size, as the table has it.
     pub size: u8,
+    /// Reserved: 0.
+    pub reserved: [u8; 3],
 }
 
 /// `struct zacpi_dmar_scope`.
 #[repr(C)]
 #[derive(Clone, Copy, Debug, Default, PartialEq, Eq)]
+#[non_exhaustive]
 pub struct DmarScope {
     /// Path length: how many hops Path has; `path` lists the first 16, then zeros.
     pub path_length: usize,
@@ -48,11 +55,14 @@ pub struct DmarScope {
     pub bus: u8,
     /// Path: the first 16 hops to the device.
     pub path: [Hop; 16],
+    /// Reserved: 0.
+    pub reserved: [u8; 4],
 }
 
 /// `struct zacpi_dmar_source`.
 #[repr(C)]
 #[derive(Clone, Copy, Debug, Default, PartialEq, Eq)]
+#[non_exhaustive]
 pub struct DmarSource {
     /// The unit that remaps the device.
     pub unit: DmarUnit,
@@ -62,11 +72,14 @@ pub struct DmarSource {
     pub hop: Hop,
     /// Whether Path has a hop.
     pub has_hop: u8,
+    /// Reserved: 0.
+    pub reserved: [u8; 4],
 }
 
 /// `struct zacpi_dmar_reserved`.
 #[repr(C)]
 #[derive(Clone, Copy, Debug, Default, PartialEq, Eq)]
+#[non_exhaustive]
 pub struct DmarReserved {
     /// Base: the first byte.
     pub base: u64,
@@ -74,11 +87,14 @@ pub struct DmarReserved {
     pub limit: u64,
     /// PCI segment group.
     pub segment: u16,
+    /// Reserved: 0.
+    pub reserved: [u8; 6],
 }
 
 /// `struct zacpi_dmar_root_ports`.
 #[repr(C)]
 #[derive(Clone, Copy, Debug, Default, PartialEq, Eq)]
+#[non_exhaustive]
 pub struct DmarRootPorts {
     /// PCI segment group.
     pub segment: u16,
@@ -91,16 +107,20 @@ pub struct DmarRootPorts {
 /// `struct zacpi_dmar_affinity`.
 #[repr(C)]
 #[derive(Clone, Copy, Debug, Default, PartialEq, Eq)]
+#[non_exhaustive]
 pub struct DmarAffinity {
     /// Register base: of the unit that is in the domain.
     pub register_base: u64,
     /// Proximity Domain.
     pub domain: u32,
+    /// Reserved: 0.
+    pub reserved: [u8; 4],
 }
 
 /// `struct zacpi_ivrs_unit`.
 #[repr(C)]
 #[derive(Clone, Copy, Debug, Default, PartialEq, Eq)]
+#[non_exhaustive]
 pub struct IvrsUnit {
     /// The physical address of its registers.
     pub base: u64,
@@ -122,11 +142,14 @@ pub struct IvrsUnit {
     pub flags: u8,
     /// Has extended features: 0 for Type 0x10.
     pub has_extended_features: u8,
+    /// Reserved: 0.
+    pub reserved: u8,
 }
 
 /// `struct zacpi_ivrs_device`.
 #[repr(C)]
 #[derive(Clone, Copy, Debug, Default, PartialEq, Eq)]
+#[non_exhaustive]
 pub struct IvrsDevice {
     /// The unit that remaps the device.
     pub unit: IvrsUnit,
@@ -134,11 +157,14 @@ pub struct IvrsDevice {
     pub source_id: u16,
     /// DTE Setting of the entry.
     pub settings: u8,
+    /// Reserved: 0.
+    pub reserved: [u8; 5],
 }
 
 /// `struct zacpi_ivrs_memory`.
 #[repr(C)]
 #[derive(Clone, Copy, Debug, Default, PartialEq, Eq)]
+#[non_exhaustive]
 pub struct IvrsMemory {
     /// The physical address of its first byte.
     pub start: u64,
@@ -152,11 +178,14 @@ pub struct IvrsMemory {
     pub block_type: u8,
     /// Flags: of `enum zacpi_ivmd_flag`.
     pub flags: u8,
+    /// Reserved: 0.
+    pub reserved: [u8; 2],
 }
 
 /// `struct zacpi_ivrs_entry`.
 #[repr(C)]
 #[derive(Clone, Copy, Debug, Default, PartialEq, Eq)]
+#[non_exhaustive]
 pub struct IvrsEntry {
     /// Unique ID length: `unique_id` is the first 32 bytes of Unique ID, then zeros.
     pub unique_id_length: usize,
@@ -184,4 +213,6 @@ pub struct IvrsEntry {
     pub unique_id_format: u8,
     /// The first 32 bytes of the device's unique id, and zeros.
     pub unique_id: [u8; 32],
+    /// Reserved: 0.
+    pub reserved: u8,
 }

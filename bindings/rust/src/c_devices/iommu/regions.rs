@@ -75,7 +75,9 @@ impl DmarRecord for DmarRootPorts {
 impl DmarRecord for DmarAffinity {
     fn of(structure: &DmarStructure<'_>) -> Option<DmarAffinity> {
         match structure.fields()? {
-            DmarFields::Rhsa(unit) => Some(DmarAffinity { register_base: unit.register_base, domain: unit.domain }),
+            DmarFields::Rhsa(unit) => {
+                Some(DmarAffinity { register_base: unit.register_base, domain: unit.domain, reserved: [0; 4] })
+            }
             _ => None,
         }
     }

@@ -12,6 +12,7 @@ pub(crate) fn unit_record(d: &Drhd) -> DmarUnit {
         includes_pci_all: d.includes_pci_all() as u8,
         flags: d.flags,
         size: d.size,
+        reserved: [0; 3],
     }
 }
 
@@ -21,11 +22,12 @@ pub(crate) fn source_record(u: &UnitSource) -> DmarSource {
         bus: u.bus,
         hop: u.hop.unwrap_or(Hop { device: 0, function: 0 }),
         has_hop: u.hop.is_some() as u8,
+        reserved: [0; 4],
     }
 }
 
 pub(crate) fn reserved_record(r: &Rmrr) -> DmarReserved {
-    DmarReserved { base: r.base, limit: r.limit, segment: r.segment }
+    DmarReserved { base: r.base, limit: r.limit, segment: r.segment, reserved: [0; 6] }
 }
 
 pub(crate) fn block_record(b: &Ivhd) -> IvrsUnit {
@@ -40,11 +42,12 @@ pub(crate) fn block_record(b: &Ivhd) -> IvrsUnit {
         block_type: b.kind,
         flags: b.flags,
         has_extended_features: b.extended_features.is_some() as u8,
+        reserved: 0,
     }
 }
 
 pub(crate) fn device_record(d: &DeviceUnit) -> IvrsDevice {
-    IvrsDevice { unit: block_record(&d.unit), source_id: d.source, settings: d.settings }
+    IvrsDevice { unit: block_record(&d.unit), source_id: d.source, settings: d.settings, reserved: [0; 5] }
 }
 
 pub(crate) fn memory_record(m: &Ivmd) -> IvrsMemory {
@@ -55,5 +58,6 @@ pub(crate) fn memory_record(m: &Ivmd) -> IvrsMemory {
         auxiliary: m.auxiliary,
         block_type: m.kind,
         flags: m.flags,
+        reserved: [0; 2],
     }
 }

@@ -16,11 +16,14 @@ pub struct MemoryAffinity {
     pub is_hot_pluggable: u8,
     /// Whether it is non-volatile.
     pub is_non_volatile: u8,
+    /// Reserved: 0.
+    pub reserved: [u8; 2],
 }
 
 /// `struct zacpi_processor_affinity`.
 #[repr(C)]
 #[derive(Clone, Copy, Debug, Default, PartialEq, Eq)]
+#[non_exhaustive]
 pub struct ProcessorAffinity {
     /// APIC ID of Type 0, X2APIC ID of Type 2, ACPI Processor UID of Type 3.
     pub id: u32,
@@ -30,11 +33,14 @@ pub struct ProcessorAffinity {
     pub clock_domain: u32,
     /// Entry type: 0, 2 or 3.
     pub entry_type: u8,
+    /// Reserved: 0.
+    pub reserved: [u8; 3],
 }
 
 /// `struct zacpi_generic_initiator`.
 #[repr(C)]
 #[derive(Clone, Copy, Debug, Default, PartialEq, Eq)]
+#[non_exhaustive]
 pub struct GenericInitiator {
     /// Proximity Domain.
     pub domain: u32,
@@ -45,11 +51,14 @@ pub struct GenericInitiator {
     pub handle_type: u8,
     /// Device Handle.
     pub handle: [u8; 16],
+    /// Reserved: 0.
+    pub reserved: [u8; 2],
 }
 
 /// `struct zacpi_its_affinity`.
 #[repr(C)]
 #[derive(Clone, Copy, Debug, Default, PartialEq, Eq)]
+#[non_exhaustive]
 pub struct ItsAffinity {
     /// Proximity Domain.
     pub domain: u32,
@@ -60,10 +69,13 @@ pub struct ItsAffinity {
 /// `struct zacpi_localities`.
 #[repr(C)]
 #[derive(Clone, Copy, Debug, Default, PartialEq, Eq)]
+#[non_exhaustive]
 pub struct Localities {
     /// Number of System Localities: rows of the matrix, from 0 on.
     pub localities: u64,
     /// Is sane: 1: there are localities, the table lists all distances, each locality is at 10 from itself, and at more
     /// than 10 from others.
     pub is_sane: u8,
+    /// Reserved: 0.
+    pub reserved: [u8; 7],
 }

@@ -10,5 +10,6 @@ pub(crate) fn pci_record(e: &McfgEntry) -> PciRegion {
         segment_group: e.pci_segment_group,
         first_bus: e.bus_number_start,
         last_bus: e.bus_number_end,
+        reserved: [0; 4],
     }
 }

@@ -7,6 +7,7 @@ use crate::c_devices::records::Register;
 /// `struct zacpi_step`.
 #[repr(C)]
 #[derive(Clone, Copy, Debug, Default, PartialEq, Eq)]
+#[non_exhaustive]
 pub struct Step {
     /// At: present.
     pub at: Register,
@@ -18,21 +19,27 @@ pub struct Step {
     pub width: u8,
     /// Kind: of `enum zacpi_step_kind`.
     pub kind: u8,
+    /// Reserved: 0.
+    pub reserved: [u8; 6],
 }
 
 /// `struct zacpi_plan`.
 #[repr(C)]
 #[derive(Clone, Copy, Debug, Default, PartialEq, Eq)]
+#[non_exhaustive]
 pub struct Plan {
     /// Steps: zeros from `count` on.
     pub steps: [Step; 8],
     /// The number of steps.
     pub count: u32,
+    /// Reserved: 0.
+    pub reserved: [u8; 4],
 }
 
 /// `struct zacpi_sleep_types`.
 #[repr(C)]
 #[derive(Clone, Copy, Debug, Default, PartialEq, Eq)]
+#[non_exhaustive]
 pub struct SleepTypes {
     /// SLP_TYPa: the value for the first control register.
     pub a: u8,

@@ -37,7 +37,7 @@ fn baud_rate(console: &Console) -> u32 {
 pub fn contents<'a>(given: &SpcrContents) -> crate::write::SpcrContents<'a> {
     let console = &given.console;
     crate::write::SpcrContents {
-        interface_type: SpcrInterfaceType::from(console.interface),
+        interface_type: SpcrInterfaceType::from(console.interface_type),
         base_address: base(&console.base),
         interrupt_type: SpcrInterruptType::from_bits_retain(interrupt_type(given)),
         irq: console.irq,

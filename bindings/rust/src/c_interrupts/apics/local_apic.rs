@@ -15,7 +15,7 @@ use crate::c_lib::regions::Mapped;
 pub fn local_apic(source: &Source<'_>) -> Result<LocalApic, Refusal> {
     let memory = Mapped::new(source.regions);
     let madt = first::<Madt>(&memory, source)?;
-    Ok(LocalApic { address: address_in(&madt), also_has_8259: madt.supports_8259() as u8 })
+    Ok(LocalApic { address: address_in(&madt), also_has_8259: madt.supports_8259() as u8, reserved: [0; 7] })
 }
 
 /// The address in the last Local APIC Address Override of a MADT, or else in its own field.

@@ -14,6 +14,7 @@ use crate::c_lib::regions::Mapped;
 pub(crate) use shown::io_apic_record;
 
 /// A MADT that describes APICs, and how much there is of each sort in it.
+#[derive(Debug)]
 pub(crate) struct ApicMadt<'h, H: Lender> {
     pub(crate) madt: PhysicalMapping<'h, H, Madt>,
     pub(crate) counts: Counts,

@@ -15,7 +15,22 @@ pub fn model(source: &Source<'_>) -> Result<InterruptModel, Refusal> {
     let tables = open(&memory, source)?;
     match apic_madt(&tables)? {
         Some(found) => Ok(known_model(&found)),
-        None => Ok(InterruptModel::default()),
+        None => Ok(unknown_model()),
+    }
+}
+
+/// The model of a machine whose MADT describes no APICs: zeros.
+fn unknown_model() -> InterruptModel {
+    InterruptModel {
+        local_apic_address: 0,
+        io_apics: 0,
+        overrides: 0,
+        nmi_sources: 0,
+        nmi_lines: 0,
+        processors: 0,
+        known: 0,
+        also_has_8259: 0,
+        reserved: [0; 6],
     }
 }
 
@@ -31,5 +46,6 @@ pub(crate) fn known_model<H: Lender>(found: &ApicMadt<'_, H>) -> InterruptModel 
         processors: found.counts.processors,
         known: 1,
         also_has_8259: found.madt.supports_8259() as u8,
+        reserved: [0; 6],
     }
 }

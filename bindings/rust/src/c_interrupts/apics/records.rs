@@ -5,6 +5,7 @@
 /// `struct zacpi_interrupt_model`.
 #[repr(C)]
 #[derive(Clone, Copy, Debug, Default, PartialEq, Eq)]
+#[non_exhaustive]
 pub struct InterruptModel {
     /// Local APIC address: of the last override of it (section 5.2.12.8), or else Local Interrupt Controller Address.
     pub local_apic_address: u64,
@@ -22,16 +23,21 @@ pub struct InterruptModel {
     pub known: u8,
     /// PCAT_COMPAT, bit 0 of Flags: there is a pair of 8259s to be masked.
     pub also_has_8259: u8,
+    /// Reserved: 0.
+    pub reserved: [u8; 6],
 }
 
 /// `struct zacpi_local_apic`.
 #[repr(C)]
 #[derive(Clone, Copy, Debug, Default, PartialEq, Eq)]
+#[non_exhaustive]
 pub struct LocalApic {
     /// Address: as in `struct zacpi_interrupt_model`, by the entries up to where none begins.
     pub address: u64,
     /// PCAT_COMPAT, bit 0 of Flags.
     pub also_has_8259: u8,
+    /// Reserved: 0.
+    pub reserved: [u8; 7],
 }
 
 /// `struct zacpi_io_apic`.
@@ -44,6 +50,8 @@ pub struct IoApic {
     pub global_system_interrupt_base: u32,
     /// The id.
     pub id: u8,
+    /// Reserved: 0.
+    pub reserved: [u8; 3],
 }
 
 /// `struct zacpi_interrupt_source_override`.
@@ -72,6 +80,8 @@ pub struct NmiSource {
     pub polarity: u8,
     /// The trigger mode of its interrupt, as the table has it.
     pub trigger: u8,
+    /// Reserved: 0.
+    pub reserved: [u8; 2],
 }
 
 /// `struct zacpi_nmi_line`.
@@ -111,6 +121,7 @@ pub struct Processor {
 
 /// `struct zacpi_platform_lists`.
 #[repr(C)]
+#[derive(Debug)]
 pub struct PlatformLists<'a> {
     /// The processors.
     pub processors: &'a mut [Processor],
@@ -137,6 +148,7 @@ pub struct PlatformLists<'a> {
 /// `struct zacpi_interrupt`.
 #[repr(C)]
 #[derive(Clone, Copy, Debug, Default, PartialEq, Eq)]
+#[non_exhaustive]
 pub struct Interrupt {
     /// Global System Interrupt.
     pub global_system_interrupt: u32,
@@ -144,11 +156,14 @@ pub struct Interrupt {
     pub polarity: u8,
     /// The trigger mode of its interrupt, as the table has it.
     pub trigger: u8,
+    /// Reserved: 0.
+    pub reserved: [u8; 2],
 }
 
 /// `struct zacpi_io_apic_pin`.
 #[repr(C)]
 #[derive(Clone, Copy, Debug, Default, PartialEq, Eq)]
+#[non_exhaustive]
 pub struct IoApicPin {
     /// The I/O APIC.
     pub io_apic: IoApic,
@@ -159,6 +174,7 @@ pub struct IoApicPin {
 /// `struct zacpi_isa_route`.
 #[repr(C)]
 #[derive(Clone, Copy, Debug, Default, PartialEq, Eq)]
+#[non_exhaustive]
 pub struct IsaRoute {
     /// Interrupt: what zacpi_get_isa_interrupt returns, or zeros.
     pub interrupt: Interrupt,
@@ -168,11 +184,14 @@ pub struct IsaRoute {
     pub present: u8,
     /// Has pin: 0: it isn't present, or zacpi_get_io_apic_pin fails.
     pub has_pin: u8,
+    /// Reserved: 0.
+    pub reserved: [u8; 2],
 }
 
 /// `struct zacpi_isa_interrupts`.
 #[repr(C)]
 #[derive(Clone, Copy, Debug, Default, PartialEq, Eq)]
+#[non_exhaustive]
 pub struct IsaInterrupts {
     /// Routes: item n is irq n.
     pub routes: [IsaRoute; 16],

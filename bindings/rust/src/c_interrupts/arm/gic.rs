@@ -113,7 +113,7 @@ fn fill_parts<R: GicRecord>(table: &[u8], from: usize, out: &mut [R]) -> usize {
 }
 
 /// The Revision of a MADT, by which its entries are read.
-#[derive(Clone, Copy)]
+#[derive(Clone, Copy, Debug)]
 struct Revision(u8);
 
 impl<R: GicRecord> Listing<Revision, R> for MadtEntryIter<'_> {

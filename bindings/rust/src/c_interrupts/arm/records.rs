@@ -14,6 +14,8 @@ pub struct GicDistributor {
     pub system_vector_base: u32,
     /// Version: 1 to 4; 0: the hardware shows it.
     pub version: u8,
+    /// Reserved: 0.
+    pub reserved: [u8; 7],
 }
 
 /// `struct zacpi_gic_cpu_interface`.
@@ -56,6 +58,8 @@ pub struct GicCpuInterface {
     pub maintenance_trigger: u8,
     /// Processor Power Efficiency Class: lower uses less power.
     pub efficiency_class: u8,
+    /// Reserved: 0.
+    pub reserved: [u8; 3],
 }
 
 /// `struct zacpi_gic_translation_service`.
@@ -66,6 +70,8 @@ pub struct GicTranslationService {
     pub address: u64,
     /// The id.
     pub id: u32,
+    /// Reserved: 0.
+    pub reserved: [u8; 4],
 }
 
 /// `struct zacpi_gic_msi_frame`.
@@ -82,6 +88,8 @@ pub struct GicMsiFrame {
     pub spi_count: u16,
     /// SPI Count/Base Select, bit 0 of Flags. 0: the frame's registers show them.
     pub has_spis: u8,
+    /// Reserved: 0.
+    pub reserved: [u8; 7],
 }
 
 /// `struct zacpi_arm_timer`.
@@ -120,6 +128,8 @@ pub struct ArmTimers {
     pub virtual_el2: ArmTimer,
     /// Whether a structure of a platform timer is malformed.
     pub platform_timers_malformed: u8,
+    /// Reserved: 0.
+    pub reserved: [u8; 7],
 }
 
 /// `struct zacpi_gt_frame`.
@@ -150,6 +160,8 @@ pub struct GtFrame {
     pub is_secure: u8,
     /// Whether it keeps its state in each power state of the processor.
     pub is_always_on: u8,
+    /// Reserved: 0.
+    pub reserved: u8,
 }
 
 /// `struct zacpi_watchdog`.
@@ -168,4 +180,6 @@ pub struct Watchdog {
     pub trigger: u8,
     /// Whether it is of the secure state.
     pub is_secure: u8,
+    /// Reserved: 0.
+    pub reserved: u8,
 }

@@ -5,7 +5,7 @@ use crate::acpi::platform::interrupt::IoApic;
 use crate::base::madt::MadtEntryIter;
 use crate::c_interrupts::apics::apics;
 use crate::c_interrupts::apics::madt::io_apic_record;
-use crate::c_interrupts::apics::records::{Interrupt, IoApicPin, IsaInterrupts, IsaRoute};
+use crate::c_interrupts::apics::records::{self, Interrupt, IoApicPin, IsaInterrupts, IsaRoute};
 use crate::c_interrupts::routes::io_apic;
 use crate::c_interrupts::routes::wirings::Wirings;
 use crate::c_lib::answer::answer;
@@ -59,13 +59,27 @@ fn meet(route: IsaRoute, io_apic: &IoApic) -> IsaRoute {
         return route;
     }
     let pin = IoApicPin { io_apic: io_apic_record(io_apic), pin: interrupt - base };
-    IsaRoute { interrupt: route.interrupt, pin, present: 1, has_pin: 1 }
+    IsaRoute { interrupt: route.interrupt, pin, present: 1, has_pin: 1, reserved: [0; 2] }
 }
 
 /// An interrupt, if there is one, that comes to no I/O APIC so far.
 fn without_pin(interrupt: Result<Interrupt, Refusal>) -> IsaRoute {
     match interrupt {
-        Ok(interrupt) => IsaRoute { interrupt, present: 1, ..IsaRoute::default() },
-        Err(_) => IsaRoute::default(),
+        Ok(interrupt) => IsaRoute { interrupt, present: 1, ..no_route() },
+        Err(_) => no_route(),
+    }
+}
+
+/// No interrupt: zeros.
+fn no_route() -> IsaRoute {
+    IsaRoute {
+        interrupt: Interrupt { global_system_interrupt: 0, polarity: 0, trigger: 0, reserved: [0; 2] },
+        pin: IoApicPin {
+            io_apic: records::IoApic { address: 0, global_system_interrupt_base: 0, id: 0, reserved: [0; 3] },
+            pin: 0,
+        },
+        present: 0,
+        has_pin: 0,
+        reserved: [0; 2],
     }
 }

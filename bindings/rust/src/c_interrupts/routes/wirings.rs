@@ -15,6 +15,7 @@ use crate::table_writer::spelled::StandsFor;
 use shown::interrupt_record;
 
 /// What the overrides of the ISA bus among a MADT's entries contain.
+#[derive(Debug)]
 pub(crate) struct Wirings {
     // All of them, where a reserved code is read as that of the bus.
     pub(crate) overrides: IsaOverrides,

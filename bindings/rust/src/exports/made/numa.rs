@@ -23,6 +23,20 @@ pub extern "C" fn zacpi_1_list_memory_affinities(
     answer(srat_entries(source, out), count, named)
 }
 
+/// Lists the items of zacpi_list_memory_affinities from the `from`-th on, from 0 on; `count` is of all.
+#[unsafe(no_mangle)]
+pub extern "C" fn zacpi_1_list_memory_affinities_from(
+    source: &Source<'_>,
+    from: usize,
+    out: *mut MemoryAffinity,
+    out_length: usize,
+    count: &mut usize,
+    named: &mut Signature,
+) -> u32 {
+    let out = unsafe { core::slice::from_raw_parts_mut(out, out_length) };
+    answer(srat_entries_from(source, from, out), count, named)
+}
+
 /// Lists the processors that the SRAT puts into domains, those that the MADT lacks too: its entries of Types 0, 2 and 3
 /// that are enabled (bit 0 of Flags), up to where no entry begins; of several for one processor the last counts.
 #[unsafe(no_mangle)]

@@ -95,7 +95,7 @@ pub(crate) fn register_from(raw: Option<&RawAddress>) -> AcpiResult<Option<Gener
 }
 
 /// The offsets of a block's address, of its length and of its extended field in a table.
-#[derive(Clone, Copy)]
+#[derive(Clone, Copy, Debug)]
 pub(super) struct BlockPlace {
     pub(super) address: usize,
     pub(super) size: usize,
@@ -132,7 +132,7 @@ impl RegisterBlock {
 
 /// What a table has of a block of registers: the extended field, unless its address is 0, and of the first versions'
 /// fields the first port and the number of bytes.
-#[derive(Clone, Copy)]
+#[derive(Clone, Copy, Debug)]
 pub(crate) struct BlockFields<'t> {
     extended: Option<&'t RawAddress>,
     port: u32,

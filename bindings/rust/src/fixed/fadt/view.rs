@@ -11,7 +11,7 @@ use crate::base::table::ValidTable;
 use crate::base::{AcpiError, AcpiResult, Lender, PhysicalMapping, PhysicalRecord};
 
 /// The record of a mapping that reads none: its bytes are mapped, and that is all.
-#[derive(Clone, Copy)]
+#[derive(Clone, Copy, Debug)]
 struct Unread;
 
 impl PhysicalRecord for Unread {
@@ -26,6 +26,7 @@ impl PhysicalRecord for Unread {
 /// A Fixed ACPI Description Table in its mapped bytes (section 5.2.9), which stay mapped until this is dropped. A
 /// call reads from them, and returns the value or the error of the call or the field of that name of
 /// `Fadt` does.
+#[derive(Debug)]
 pub struct FadtView<'h, H: Lender> {
     mapping: PhysicalMapping<'h, H, Unread>,
     reach: usize,

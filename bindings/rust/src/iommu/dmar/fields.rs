@@ -9,6 +9,7 @@ pub(super) use readings::{drhd_at, rmrr_at};
 
 /// DMA Remapping Hardware Unit Definition (DRHD, section 8.3): a unit that remaps.
 #[derive(Clone, Copy, Debug)]
+#[non_exhaustive]
 pub struct Drhd {
     /// Flags: bit 0 INCLUDE_PCI_ALL.
     pub flags: u8,
@@ -23,6 +24,7 @@ pub struct Drhd {
 /// Reserved Memory Region Reporting (RMRR, section 8.4): memory that devices of firmware reach, and that has to be
 /// mapped for them.
 #[derive(Clone, Copy, Debug)]
+#[non_exhaustive]
 pub struct Rmrr {
     /// Segment Number: the PCI segment of the devices.
     pub segment: u16,
@@ -34,6 +36,7 @@ pub struct Rmrr {
 
 /// Root Port ATS Capability Reporting (ATSR, section 8.5): the root ports that support address translation services.
 #[derive(Clone, Copy, Debug)]
+#[non_exhaustive]
 pub struct Atsr {
     /// Flags: bit 0 ALL_PORTS.
     pub flags: u8,
@@ -43,6 +46,7 @@ pub struct Atsr {
 
 /// Remapping Hardware Static Affinity (RHSA, section 8.6): the proximity domain of a unit.
 #[derive(Clone, Copy, Debug)]
+#[non_exhaustive]
 pub struct Rhsa {
     /// Register Base Address: that of the unit's DRHD.
     pub register_base: u64,
@@ -53,6 +57,7 @@ pub struct Rhsa {
 /// ACPI Name-space Device Declaration (ANDD, section 8.7): a device that the ACPI namespace names;
 /// `DmarStructure::object_name` has the name.
 #[derive(Clone, Copy, Debug)]
+#[non_exhaustive]
 pub struct Andd {
     /// ACPI Device Number: the Enumeration ID by which device scopes of type 5 name the device.
     pub device_number: u8,
@@ -60,6 +65,7 @@ pub struct Andd {
 
 /// SoC Integrated Address Translation Cache (SATC, section 8.8): integrated devices that cache translations.
 #[derive(Clone, Copy, Debug)]
+#[non_exhaustive]
 pub struct Satc {
     /// Flags: bit 0 ATC_REQUIRED.
     pub flags: u8,
@@ -69,6 +75,7 @@ pub struct Satc {
 
 /// SoC Integrated Device Property (SIDP, section 8.9): integrated devices with properties.
 #[derive(Clone, Copy, Debug)]
+#[non_exhaustive]
 pub struct Sidp {
     /// Segment Number: the PCI segment of the devices.
     pub segment: u16,
@@ -76,6 +83,7 @@ pub struct Sidp {
 
 /// What a structure of a DMAR contains in its fixed bytes, by its type (section 8.2).
 #[derive(Clone, Copy, Debug)]
+#[non_exhaustive]
 pub enum DmarFields {
     /// Type 0.
     Drhd(Drhd),

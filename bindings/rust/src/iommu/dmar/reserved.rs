@@ -6,7 +6,7 @@ use super::scope::Hop;
 use super::structure::DmarStructureIter;
 
 /// The ranges of memory that a DMAR reserves for a device, in order (section 8.4).
-#[derive(Clone, Copy)]
+#[derive(Clone, Copy, Debug)]
 pub struct ReservedIter<'a, 'b> {
     structures: DmarStructureIter<'a>,
     segment: u16,

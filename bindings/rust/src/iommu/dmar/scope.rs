@@ -22,7 +22,7 @@ impl Hop {
 }
 
 /// The hops of a path, in order (section 8.3.1): two bytes each. A last single byte is no hop.
-#[derive(Clone, Copy)]
+#[derive(Clone, Copy, Debug)]
 pub struct HopIter<'a> {
     rest: &'a [u8],
 }
@@ -42,7 +42,7 @@ impl Iterator for HopIter<'_> {
 }
 
 /// A device scope: a device, or a bridge and all devices below it, with the path to it from a bus (section 8.3.1).
-#[derive(Clone, Copy)]
+#[derive(Clone, Copy, Debug)]
 pub struct DeviceScope<'a> {
     bytes: &'a [u8],
 }
@@ -125,7 +125,7 @@ fn front_length(path: HopIter<'_>, hops: &[Hop]) -> Option<usize> {
 }
 
 /// Device scopes.
-#[derive(Clone, Copy)]
+#[derive(Clone, Copy, Debug)]
 pub struct Scopes;
 
 impl<'a> PieceKind<'a> for Scopes {

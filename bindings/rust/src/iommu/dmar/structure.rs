@@ -12,7 +12,7 @@ use crate::iommu::pieces::{PieceIter, PieceKind, valid_length};
 use crate::iommu::texts::up_to_zero;
 
 /// A structure of a DMAR (section 8.2).
-#[derive(Clone, Copy)]
+#[derive(Clone, Copy, Debug)]
 pub struct DmarStructure<'a> {
     bytes: &'a [u8],
 }
@@ -134,7 +134,7 @@ fn least_of(kind: u16) -> usize {
 }
 
 /// The structures of a DMAR.
-#[derive(Clone, Copy)]
+#[derive(Clone, Copy, Debug)]
 pub struct Structures;
 
 impl<'a> PieceKind<'a> for Structures {

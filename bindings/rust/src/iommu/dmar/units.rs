@@ -9,6 +9,7 @@ use crate::iommu::error::{IommuError, IommuResult};
 
 /// A unit, and how it knows a device that sends it interrupts (section 8.3.1).
 #[derive(Clone, Copy, Debug)]
+#[non_exhaustive]
 pub struct UnitSource {
     /// The unit that remaps the device's interrupts.
     pub unit: Drhd,
@@ -19,7 +20,7 @@ pub struct UnitSource {
 }
 
 /// The units in a DMAR's bytes (chapter 8). It needs no handler.
-#[derive(Clone, Copy)]
+#[derive(Clone, Copy, Debug)]
 pub struct DmarUnits<'a> {
     table: &'a [u8],
 }

@@ -14,6 +14,7 @@ use readings::{ivhd_at, ivmd_at};
 
 /// I/O Virtualization Hardware Definition (IVHD, section 5.2): a unit that remaps.
 #[derive(Clone, Copy, Debug)]
+#[non_exhaustive]
 pub struct Ivhd {
     /// Type: 0x10, 0x11 or 0x40.
     pub kind: u8,
@@ -37,6 +38,7 @@ pub struct Ivhd {
 
 /// I/O Virtualization Memory Definition (IVMD, section 5.2): memory that devices reach by its own rules.
 #[derive(Clone, Copy, Debug)]
+#[non_exhaustive]
 pub struct Ivmd {
     /// Type: 0x20 for all devices, 0x21 for the one of `device_id`, 0x22 for those from it to `auxiliary`.
     pub kind: u8,
@@ -54,6 +56,7 @@ pub struct Ivmd {
 
 /// What a block of an IVRS contains in its fixed bytes, by its type (section 5.2).
 #[derive(Clone, Copy, Debug)]
+#[non_exhaustive]
 pub enum IvrsFields {
     /// Types 0x10, 0x11 and 0x40.
     Ivhd(Ivhd),
@@ -106,7 +109,7 @@ impl Ivmd {
 }
 
 /// A block of an IVRS (section 5.2).
-#[derive(Clone, Copy)]
+#[derive(Clone, Copy, Debug)]
 pub struct IvrsBlock<'a> {
     bytes: &'a [u8],
 }
@@ -197,7 +200,7 @@ impl<'a> IvrsBlock<'a> {
 }
 
 /// The blocks of an IVRS.
-#[derive(Clone, Copy)]
+#[derive(Clone, Copy, Debug)]
 pub struct Blocks;
 
 impl<'a> PieceKind<'a> for Blocks {

@@ -6,6 +6,7 @@ use crate::iommu::error::{IommuError, IommuResult};
 
 /// A unit, and how it treats a device.
 #[derive(Clone, Copy, Debug)]
+#[non_exhaustive]
 pub struct DeviceUnit {
     /// The unit that remaps the device.
     pub unit: Ivhd,
@@ -16,7 +17,7 @@ pub struct DeviceUnit {
 }
 
 /// The blocks of one type, in order.
-#[derive(Clone, Copy)]
+#[derive(Clone, Copy, Debug)]
 pub struct BestBlockIter<'a> {
     blocks: IvrsBlockIter<'a>,
     kind: u8,
@@ -36,7 +37,7 @@ impl<'a> Iterator for BestBlockIter<'a> {
 }
 
 /// The memory with rules for a device, in order (section 5.2).
-#[derive(Clone, Copy)]
+#[derive(Clone, Copy, Debug)]
 pub struct MemoryIter<'a> {
     blocks: IvrsBlockIter<'a>,
     device_id: u16,
@@ -56,7 +57,7 @@ impl Iterator for MemoryIter<'_> {
 }
 
 /// The blocks in an IVRS' bytes (section 5.2). It needs no handler.
-#[derive(Clone, Copy)]
+#[derive(Clone, Copy, Debug)]
 pub struct IvrsBlocks<'a> {
     table: &'a [u8],
 }

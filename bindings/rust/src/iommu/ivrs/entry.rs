@@ -7,6 +7,7 @@ use crate::iommu::texts::up_to_zero;
 
 /// A special device, type 0x48 (section 5.2).
 #[derive(Clone, Copy, Debug)]
+#[non_exhaustive]
 pub struct SpecialDevice {
     /// Handle: of an I/O APIC its id, of an HPET its number.
     pub handle: u8,
@@ -18,7 +19,7 @@ pub struct SpecialDevice {
 
 /// A device entry of an IVHD (section 5.2): devices, and how the unit treats them. The end of a range belongs to
 /// its start.
-#[derive(Clone, Copy)]
+#[derive(Clone, Copy, Debug)]
 pub struct DeviceEntry<'a> {
     bytes: &'a [u8],
 }
@@ -176,7 +177,7 @@ fn own_size(entry: &[u8]) -> usize {
 }
 
 /// Device entries.
-#[derive(Clone, Copy)]
+#[derive(Clone, Copy, Debug)]
 pub struct Entries;
 
 impl<'a> PieceKind<'a> for Entries {

@@ -40,6 +40,7 @@ impl MemoryRange {
 }
 
 /// The ranges of memory that a SRAT puts into proximity domains (section 5.2.16.2).
+#[derive(Debug)]
 pub struct MemoryAffinities<A: Allocator> {
     ranges: ManagedSlice<MemoryRange, A>,
 }

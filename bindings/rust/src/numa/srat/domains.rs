@@ -5,7 +5,7 @@ use super::entry::ProcessorId;
 use super::walk::SratEntryIter;
 
 /// The proximity domains in a SRAT's bytes (section 5.2.16). It needs no handler.
-#[derive(Clone, Copy)]
+#[derive(Clone, Copy, Debug)]
 pub struct Domains<'a> {
     table: &'a [u8],
 }

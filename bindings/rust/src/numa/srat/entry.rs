@@ -11,7 +11,7 @@ use crate::base::bytes::has_bit;
 use crate::base::entries::{EntryLayout, Grammar, Place, Width};
 
 /// A processor, by the id that entries of a SRAT name it by.
-#[derive(Clone, Copy)]
+#[derive(Clone, Copy, Debug)]
 pub(super) enum ProcessorId {
     /// The id of its local APIC or x2APIC (sections 5.2.16.1 and 5.2.16.3).
     Apic(u32),
@@ -21,6 +21,7 @@ pub(super) enum ProcessorId {
 
 /// An entry of a SRAT, of types 0 to 6, with its fields (section 5.2.16).
 #[derive(Clone, Copy, Debug)]
+#[non_exhaustive]
 pub enum SratEntry {
     /// Processor Local APIC/SAPIC Affinity Structure, type 0 (section 5.2.16.1): a processor, by the id of
     /// its local APIC.

@@ -16,6 +16,7 @@ pub(super) use readings::{
 /// Processor Local APIC/SAPIC Affinity Structure: the domain of a processor with a local APIC (section
 /// 5.2.16.1).
 #[derive(Clone, Copy, Debug)]
+#[non_exhaustive]
 pub struct LocalApicAffinity {
     /// Proximity Domain: the domain of the processor. In tables of revision 0 and 1 it is its lowest byte
     /// alone.
@@ -32,6 +33,7 @@ pub struct LocalApicAffinity {
 
 /// Memory Affinity Structure: the domain of a range of memory (section 5.2.16.2).
 #[derive(Clone, Copy, Debug)]
+#[non_exhaustive]
 pub struct MemoryAffinity {
     /// Proximity Domain: the domain of the range. In tables of revision 0 and 1 it is its lowest byte alone.
     pub domain: u32,
@@ -60,6 +62,7 @@ impl MemoryAffinity {
 /// Processor Local x2APIC Affinity Structure: the domain of a processor with a local x2APIC (section
 /// 5.2.16.3).
 #[derive(Clone, Copy, Debug)]
+#[non_exhaustive]
 pub struct LocalX2ApicAffinity {
     /// Proximity Domain: the domain of the processor.
     pub domain: u32,
@@ -74,6 +77,7 @@ pub struct LocalX2ApicAffinity {
 /// GICC Affinity Structure: the domain of a processor with an interface to the Generic Interrupt Controller
 /// (GIC; section 5.2.16.4).
 #[derive(Clone, Copy, Debug)]
+#[non_exhaustive]
 pub struct GiccAffinity {
     /// Proximity Domain: the domain of the processor.
     pub domain: u32,
@@ -88,6 +92,7 @@ pub struct GiccAffinity {
 /// GIC Interrupt Translation Service (ITS) Affinity Structure: the domain of such a service (section
 /// 5.2.16.5). It has no flags.
 #[derive(Clone, Copy, Debug)]
+#[non_exhaustive]
 pub struct GicItsAffinity {
     /// Proximity Domain: the domain of the service.
     pub domain: u32,
@@ -99,6 +104,7 @@ pub struct GicItsAffinity {
 /// (section 5.2.16.6). A Generic Port Affinity Structure has the same fields: it has the domain of a port
 /// that devices are attached to.
 #[derive(Clone, Copy, Debug)]
+#[non_exhaustive]
 pub struct GenericAffinity {
     /// Device Handle Type: the form of the handle. 0: it names the device in the namespace. 1: it is the
     /// device's PCI address. Others are reserved, and kept as they are.

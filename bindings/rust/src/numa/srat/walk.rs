@@ -11,6 +11,7 @@ use crate::base::entries::split_front;
 /// their length. It ends at the table's end, or where no entry begins: if one byte is left, or if the
 /// length is under 2, under the least of its type (16, 40, 24, 18, 12, 32 and 32 for types 0 to 6), or past
 /// the table's end.
+#[derive(Debug)]
 pub struct SratEntryIter<'a> {
     rest: &'a [u8],
     revision: u8,

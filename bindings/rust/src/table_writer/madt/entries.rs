@@ -10,7 +10,7 @@ use crate::table_writer::made::madt_bytes::{
 use crate::table_writer::numbers::bit_of;
 
 /// The fields between the header and the entries.
-#[derive(Clone, Copy)]
+#[derive(Clone, Copy, Debug)]
 pub struct Fixed {
     /// The physical address of each processor's local APIC.
     pub local_apic_address: u64,
@@ -58,7 +58,7 @@ impl Record for MadtProcessor {
 }
 
 /// The address of the local APICs, as an entry if the fixed fields have no place for it.
-#[derive(Clone, Copy)]
+#[derive(Clone, Copy, Debug)]
 pub struct AddressOverride(pub(super) u64);
 
 impl Record for AddressOverride {
@@ -89,7 +89,7 @@ impl Record for MadtNmiLine {
 }
 
 /// A mailbox, if processors are woken by one.
-#[derive(Clone, Copy)]
+#[derive(Clone, Copy, Debug)]
 pub struct Wakeup(pub(super) Option<u64>);
 
 impl Record for Wakeup {

@@ -17,7 +17,7 @@ use core::marker::PhantomData;
 
 /// What the MADT of an Arm machine is to contain, in the fields of `GicModel`, as which it is read; or of what is
 /// written as them.
-#[derive(Copy)]
+#[derive(Copy, Debug)]
 pub struct GicContents<'a, C = GicCpuInterface, R = GicRedistributors, T = GicTranslationService, F = GicMsiFrame> {
     /// GIC Distributor (GICD).
     pub distributor: GicDistributor,

@@ -6,7 +6,7 @@ use crate::fixed::fadt::{GpeBlock, PowerProfile};
 use crate::write::made::fadt::{ArmBootFeatures, FixedFeatures, PcBootFeatures};
 
 /// The fixed hardware of a machine: its blocks of registers, and the commands that take them over (section 5.2.9).
-#[derive(Clone, Copy)]
+#[derive(Clone, Copy, Debug)]
 pub struct FixedHardware {
     /// SMI_CMD: the port that the commands are written to, 0 if there is no system management mode.
     pub smi_cmd_port: u32,
@@ -41,7 +41,8 @@ pub struct FixedHardware {
 }
 
 /// What hardware a FADT is of.
-#[derive(Clone, Copy)]
+#[derive(Clone, Copy, Debug)]
+#[non_exhaustive]
 pub enum FadtHardware {
     /// HW_REDUCED_ACPI: there is no fixed hardware.
     Reduced,
@@ -50,7 +51,7 @@ pub enum FadtHardware {
 }
 
 /// What a FADT contains of processors and of the clock, in fields of its first versions (section 5.2.9).
-#[derive(Clone, Copy)]
+#[derive(Clone, Copy, Debug)]
 pub struct LegacyFields {
     /// P_LVL2_LAT: the longest time into C2 and back, in microseconds. Above 100: there is no C2.
     pub worst_c2_latency: u16,
@@ -88,7 +89,7 @@ impl LegacyFields {
 }
 
 /// The contents of a FADT, by the names of `Fadt`, as which it is read (section 5.2.9).
-#[derive(Clone, Copy)]
+#[derive(Clone, Copy, Debug)]
 pub struct FadtContents {
     /// The physical address of the DSDT.
     pub dsdt: u64,

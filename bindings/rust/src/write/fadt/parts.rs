@@ -108,7 +108,7 @@ pub(crate) fn feature_number(contents: &FadtContents) -> u32 {
 }
 
 /// The fields before RESET_REG.
-#[derive(Clone, Copy)]
+#[derive(Clone, Copy, Debug)]
 pub struct Front(pub(super) FadtContents);
 
 impl Record for Front {
@@ -120,7 +120,7 @@ impl Record for Front {
 }
 
 /// The fields between RESET_REG and the registers.
-#[derive(Clone, Copy)]
+#[derive(Clone, Copy, Debug)]
 pub struct Wide(pub(super) FadtContents);
 
 impl Record for Wide {
@@ -149,7 +149,7 @@ fn registers(c: &FadtContents) -> [Option<GenericAddress>; 10] {
 }
 
 /// The registers from X_PM1a_EVT_BLK to SLEEP_STATUS_REG, each with its bytes.
-#[derive(Clone, Copy)]
+#[derive(Clone, Copy, Debug)]
 pub struct WideRegisters(pub(super) FadtContents);
 
 impl Spelled for WideRegisters {

@@ -10,7 +10,7 @@ use crate::write::fadt::{FadtContents, FixedHardware};
 
 /// Fixed Feature Flags: what the fixed hardware does and needs (section 5.2.9). The fields `hardware` and
 /// `reset_register` of the contents give HW_REDUCED_ACPI, bit 20, and RESET_REG_SUP, bit 10.
-#[derive(Clone, Copy)]
+#[derive(Clone, Copy, Debug)]
 pub struct FixedFeatures {
     /// WBINVD (bit 0, section 5.2.9): whether `WBINVD` or an equivalent writes back and drops all caches, with memory
     /// coherent.
@@ -90,7 +90,7 @@ impl FixedFeatures {
 }
 
 /// IAPC_BOOT_ARCH, the IA-PC Boot Architecture Flags: the devices of a PC (section 5.2.9.3).
-#[derive(Clone, Copy)]
+#[derive(Clone, Copy, Debug)]
 pub struct PcBootFeatures {
     /// LEGACY_DEVICES (bit 0, section 5.2.9.3): whether the machine has devices on LPC or ISA that a user can see.
     pub legacy_devices_are_accessible: bool,
@@ -121,7 +121,7 @@ impl PcBootFeatures {
 
 /// ARM_BOOT_ARCH, the Arm Boot Architecture Flags: the way in which the firmware of an Arm machine is called (section
 /// 5.2.9.4).
-#[derive(Clone, Copy)]
+#[derive(Clone, Copy, Debug)]
 pub struct ArmBootFeatures {
     /// PSCI_COMPLIANT (bit 0, section 5.2.9.4): whether the machine follows PSCI.
     pub implements_psci: bool,

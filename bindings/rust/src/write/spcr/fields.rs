@@ -65,7 +65,7 @@ pub(crate) fn name_length(contents: &SpcrContents<'_>) -> u16 {
 }
 
 /// NamespaceString, which a zero ends.
-#[derive(Clone, Copy)]
+#[derive(Clone, Copy, Debug)]
 pub struct Name<'a>(pub(super) &'a str);
 
 impl Spelled for Name<'_> {

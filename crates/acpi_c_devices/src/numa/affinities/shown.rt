@@ -15,6 +15,7 @@ pub(crate) fn memory_affinity(r: &MemoryRange) -> Option<MemoryAffinity>
         domain: r.domain,
         is_hot_pluggable: r.is_hot_pluggable as u8,
         is_non_volatile: r.is_non_volatile as u8,
+        reserved: [0; 2],
     })
 }
 
@@ -32,5 +33,6 @@ pub(crate) fn processor_affinity(
         domain,
         clock_domain,
         entry_type: kind,
+        reserved: [0; 3],
     }
 }

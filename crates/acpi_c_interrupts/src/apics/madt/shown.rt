@@ -11,5 +11,6 @@ pub(crate) fn io_apic_record(x: &acpi_base::model::IoApic) -> IoApic
         address: x.address,
         global_system_interrupt_base: x.global_system_interrupt_base,
         id: x.id,
+        reserved: [0; 3],
     }
 }

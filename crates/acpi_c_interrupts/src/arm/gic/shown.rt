@@ -15,6 +15,7 @@ pub(crate) fn distributor_record(d: &acpi_arm::gic::GicDistributor) -> GicDistri
         id: d.id,
         system_vector_base: d.system_vector_base,
         version: d.version,
+        reserved: [0; 7],
     }
 }
 
@@ -41,6 +42,7 @@ pub(crate) fn cpu_interface_record(x: &acpi_arm::gic::GicCpuInterface) -> GicCpu
         performance_trigger: x.performance_trigger.code(),
         maintenance_trigger: x.maintenance_trigger.code(),
         efficiency_class: x.efficiency_class,
+        reserved: [0; 3],
     }
 }
 
@@ -61,6 +63,7 @@ pub(crate) fn translation_service_record(
     GicTranslationService {
         address: t.address,
         id: t.id,
+        reserved: [0; 4],
     }
 }
 
@@ -73,5 +76,6 @@ pub(crate) fn msi_frame_record(f: &acpi_arm::gic::GicMsiFrame) -> GicMsiFrame
         spi_base: spis_or(f.spis).base,
         spi_count: spis_or(f.spis).count,
         has_spis: f.spis.is_some() as u8,
+        reserved: [0; 7],
     }
 }

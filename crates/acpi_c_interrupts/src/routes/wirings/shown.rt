@@ -12,5 +12,6 @@ pub(crate) fn interrupt_record(i: &IsaInterrupt) -> Interrupt
         global_system_interrupt: i.global_system_interrupt,
         polarity: i.polarity.code(),
         trigger: i.trigger_mode.code(),
+        reserved: [0; 2],
     }
 }

@@ -9,9 +9,9 @@ returns-then-is_found-clause-written g c =
     let m = g.H.AcpiHandler.memory c.args.handler.now in
     let w = c.walk-count.ensures in
     let found : c.walk-count.result.1 ≡ true = cc in
-    subst (λ a. Writes c.walk-count.result.0 c.args.out.now c.walk-count.new.out (areas_missing_ranges m a))
+    subst (λ a. Writes c.walk-count.result.0 c.args.out.now c.walk-count.new.out (areas_missing_ranges c.args.source.now.accept m a))
     c.areas_of-areas.ensures.exact
-    (first_found m c.areas_of-areas.result _ _ _ _ w.written w.next w.found found)
+    (first_found c.args.source.now.accept m c.areas_of-areas.result _ _ _ _ w.written w.next w.found found)
 
 pub returns-clause-written : goal.returns-clause-written
 unfolding candidate_missing_ranges
@@ -20,6 +20,6 @@ returns-clause-written g c =
     let w = c.walk-count.ensures in
     let none : c.walk-count.result.1 ≡ false = cc in
     subst (λ a. Writes c.walk.result.0 c.args.out.now c.walk.new.out
-    (areas_missing_ranges m a)) c.areas_of-areas.ensures.exact
-    (both_walked m c.areas_of-areas.result _ _ _ _ w.written w.next w.found _ _ none c.walk.ensures.written
+    (areas_missing_ranges c.args.source.now.accept m a)) c.areas_of-areas.ensures.exact
+    (both_walked c.args.source.now.accept m c.areas_of-areas.result _ _ _ _ w.written w.next w.found _ _ none c.walk.ensures.written
     c.walk.ensures.next)

@@ -6,7 +6,7 @@ pub loop-left-preserved : goal.loop-left-preserved
 loop-left-preserved g c =
     let o = c.in-Err.missing_range in (
       rw (c.put_pair-next.ensures.items, c.put_pair-next.ensures.count)
-          (walked_more _ _ _ _ _ o _ _ _ c.loop-left-test.true
+          (walked_more c.args.accept _ _ _ _ _ o _ _ _ c.loop-left-test.true
           (sym c.in-Err.ensures.valid) c.in-Err.ensures.missing_range
           c.loop-left.invariant.0),
       omega (arith, c.put_pair-next.ensures.count, few_missing_ranges o),
@@ -14,22 +14,22 @@ loop-left-preserved g c =
     )
 
 pub returns-in-Ok-clause-written : goal.returns-in-Ok-clause-written
-returns-in-Ok-clause-written g c = (walked_to _ _ _ _ _ _ _ _ c.loop-left-test.true (sym c.in-Ok.ensures.valid)
+returns-in-Ok-clause-written g c = (walked_to c.args.accept _ _ _ _ _ _ _ _ c.loop-left-test.true (sym c.in-Ok.ensures.valid)
     c.loop-left.invariant.0).0
 
 pub returns-in-Ok-clause-next : goal.returns-in-Ok-clause-next
-returns-in-Ok-clause-next g c = (walked_to _ _ _ _ _ _ _ _ c.loop-left-test.true (sym c.in-Ok.ensures.valid)
+returns-in-Ok-clause-next g c = (walked_to c.args.accept _ _ _ _ _ _ _ _ c.loop-left-test.true (sym c.in-Ok.ensures.valid)
     c.loop-left.invariant.0).1
 
 pub returns-in-Ok-clause-found : goal.returns-in-Ok-clause-found
-returns-in-Ok-clause-found g c = (walked_to _ _ _ _ _ _ _ _ c.loop-left-test.true (sym c.in-Ok.ensures.valid)
+returns-in-Ok-clause-found g c = (walked_to c.args.accept _ _ _ _ _ _ _ _ c.loop-left-test.true (sym c.in-Ok.ensures.valid)
     c.loop-left.invariant.0).2
 
 pub returns-clause-written : goal.returns-clause-written
-returns-clause-written g c = (walked_all _ _ _ _ _ _ _ _ c.loop-left-test.false c.loop-left.invariant.0).0
+returns-clause-written g c = (walked_all c.args.accept _ _ _ _ _ _ _ _ c.loop-left-test.false c.loop-left.invariant.0).0
 
 pub returns-clause-next : goal.returns-clause-next
-returns-clause-next g c = (walked_all _ _ _ _ _ _ _ _ c.loop-left-test.false c.loop-left.invariant.0).1
+returns-clause-next g c = (walked_all c.args.accept _ _ _ _ _ _ _ _ c.loop-left-test.false c.loop-left.invariant.0).1
 
 pub returns-clause-found : goal.returns-clause-found
-returns-clause-found g c = (walked_all _ _ _ _ _ _ _ _ c.loop-left-test.false c.loop-left.invariant.0).2
+returns-clause-found g c = (walked_all c.args.accept _ _ _ _ _ _ _ _ c.loop-left-test.false c.loop-left.invariant.0).2

@@ -7,9 +7,9 @@ use Rattle.acpi_c_lib.proofs.candidates.walk.Given as goal
 abbrev pub invariant-loop-left : goal.invariant-loop-left
 invariant-loop-left g l =
     let m = g.H.AcpiHandler.memory l.handler in
-    let all = walk_missing_ranges m l.fn.candidates.count l.fn.candidates.first in
-    Walked m l.left l.address l.out l.next (put_from l.initial.out l.from all) (l.from + length all)
-    (has_valid m l.fn.candidates.count l.fn.candidates.first)
+    let all = walk_missing_ranges l.fn.accept m l.fn.candidates.count l.fn.candidates.first in
+    Walked l.fn.accept m l.left l.address l.out l.next (put_from l.initial.out l.from all) (l.from + length all)
+    (has_valid l.fn.accept m l.fn.candidates.count l.fn.candidates.first)
     × (l.next + l.left ≤ l.from + l.fn.candidates.count)
     × (l.address + 16 * l.left ≤ 2 ^ 20)
 

@@ -10,6 +10,7 @@ use crate::check::machine::Machine;
 use crate::check::spans::{Span, overlaps};
 use acpi_programs::walk::aml::resources::{Descriptors, space_of};
 use acpi_programs::walk::fields::print_path;
+use acpi_programs::walk::language::size;
 use zacpi::mcfg::McfgEntryIter;
 use zacpi::sdt::{Signature, field};
 
@@ -120,8 +121,8 @@ pub(super) fn check_windows(names: &Names<'_>, findings: &mut Findings) {
             }
         }
         for (before, span) in overlaps(&mut spans) {
-            if let Some(other) = names.all.get(before.owner as usize)
-                && let Some(it) = names.all.get(span.owner as usize)
+            if let Some(other) = names.all.get(size(before.owner))
+                && let Some(it) = names.all.get(size(span.owner))
                 && before.owner != span.owner
             {
                 findings.table = it.table;

@@ -4,6 +4,7 @@ use crate::check::numbers::Numbers;
 use acpi_programs::rattle::alloc::Global;
 use acpi_programs::walk::aml::value::Value;
 use acpi_programs::walk::aml::{Ends, Object};
+use acpi_programs::walk::language::size;
 use acpi_programs::walk::walk::{Show, ShowObjects, walk_with_objects};
 use std::collections::BTreeMap;
 use zacpi::base::bytes::skip;
@@ -159,10 +160,10 @@ fn is_defined(kind: &str) -> bool {
 
 /// Between which offsets of its table an object has what it is set to.
 fn data_of(object: &Object<'_>) -> (usize, usize) {
-    let end = object.offset.saturating_add(object.length) as usize;
+    let end = size(object.offset.saturating_add(object.length));
     match object.value {
         Value::Data(data) => (end.saturating_sub(data.len()), end),
-        _ if object.kind == "Processor" => (object.own.0 as usize, object.own.1 as usize),
+        _ if object.kind == "Processor" => (size(object.own.0), size(object.own.1)),
         _ => (end, end),
     }
 }
@@ -188,7 +189,7 @@ impl ShowObjects for Names<'_> {
         self.letters.extend_from_slice(path);
         let named = Named {
             table: self.table,
-            offset: object.offset as usize,
+            offset: size(object.offset),
             kind: object.kind,
             key,
             scope,

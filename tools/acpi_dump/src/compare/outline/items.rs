@@ -8,6 +8,7 @@ use acpi_programs::rattle::alloc::Global;
 use acpi_programs::walk::aml::{Ends, Object, Value};
 use acpi_programs::walk::fault::Fault;
 use acpi_programs::walk::fields::{print_hex, print_meaning, print_path, print_value};
+use acpi_programs::walk::language::size;
 use acpi_programs::walk::out::Out;
 use acpi_programs::walk::walk::{Field, Group, Show, ShowObjects, walk_with_objects};
 
@@ -215,7 +216,7 @@ impl ShowObjects for Items<'_> {
         self.values.text("the list ends: ");
         why.print(&mut self.values);
         self.add(offset, 0, MALFORMED, (start, start));
-        self.bytes(offset, self.table.get(offset as usize..).unwrap_or(&[]))
+        self.bytes(offset, self.table.get(size(offset)..).unwrap_or(&[]))
     }
 }
 

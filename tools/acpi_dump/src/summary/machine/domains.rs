@@ -4,6 +4,7 @@ use super::facts::{Facts, Value};
 use crate::text::granted;
 use acpi_programs::input::entries::{Entry, own_signature};
 use acpi_programs::rattle::alloc::Global;
+use acpi_programs::walk::language::size;
 use acpi_programs::walk::matrix::{Matrix, matrix_of};
 use acpi_programs::walk::share::{MEMORY, Share, shares_of};
 use acpi_programs::walk::walk::{Group, Show, walk_table};
@@ -17,8 +18,8 @@ struct Matrices<'a> {
 
 impl Show for Matrices<'_> {
     fn begin(&mut self, group: &Group) {
-        let start = group.offset as usize;
-        let end = start.saturating_add(group.length as usize);
+        let start = size(group.offset);
+        let end = start.saturating_add(size(group.length));
         if group.kind == Some(1)
             && let Some(matrix) = matrix_of(self.table.get(start..end).unwrap_or(&[]))
         {

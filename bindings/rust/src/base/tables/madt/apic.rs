@@ -8,6 +8,7 @@ use super::entry::EntryHeader;
 /// Processor Local APIC: a processor and its local APIC (ACPI 6.4, section 5.2.12.2).
 #[derive(Clone, Copy, Debug)]
 #[repr(C)]
+#[non_exhaustive]
 pub struct LocalApicEntry {
     /// Type and Length: the entry's type, and its length in bytes.
     pub header: EntryHeader,
@@ -22,6 +23,7 @@ pub struct LocalApicEntry {
 /// I/O APIC (ACPI 6.4, section 5.2.12.3).
 #[derive(Clone, Copy, Debug)]
 #[repr(C)]
+#[non_exhaustive]
 pub struct IoApicEntry {
     /// Type and Length: the entry's type, and its length in bytes.
     pub header: EntryHeader,
@@ -37,6 +39,7 @@ pub struct IoApicEntry {
 /// the same number (ACPI 6.4, section 5.2.12.5).
 #[derive(Clone, Copy, Debug)]
 #[repr(C)]
+#[non_exhaustive]
 pub struct InterruptSourceOverrideEntry {
     /// Type and Length: the entry's type, and its length in bytes.
     pub header: EntryHeader,
@@ -53,6 +56,7 @@ pub struct InterruptSourceOverrideEntry {
 /// NMI Source: an interrupt that is to be non-maskable (ACPI 6.4, section 5.2.12.6).
 #[derive(Clone, Copy, Debug)]
 #[repr(C)]
+#[non_exhaustive]
 pub struct NmiSourceEntry {
     /// Type and Length: the entry's type, and its length in bytes.
     pub header: EntryHeader,
@@ -66,6 +70,7 @@ pub struct NmiSourceEntry {
 /// 5.2.12.7).
 #[derive(Clone, Copy, Debug)]
 #[repr(C)]
+#[non_exhaustive]
 pub struct LocalApicNmiEntry {
     /// Type and Length: the entry's type, and its length in bytes.
     pub header: EntryHeader,
@@ -81,6 +86,7 @@ pub struct LocalApicNmiEntry {
 /// the MADT itself (ACPI 6.4, section 5.2.12.8).
 #[derive(Clone, Copy, Debug)]
 #[repr(C)]
+#[non_exhaustive]
 pub struct LocalApicAddressOverrideEntry {
     /// Type and Length: the entry's type, and its length in bytes.
     pub header: EntryHeader,
@@ -91,6 +97,7 @@ pub struct LocalApicAddressOverrideEntry {
 /// Processor Local x2APIC: a processor and its local x2APIC (ACPI 6.4, section 5.2.12.12).
 #[derive(Clone, Copy, Debug)]
 #[repr(C)]
+#[non_exhaustive]
 pub struct LocalX2ApicEntry {
     /// Type and Length: the entry's type, and its length in bytes.
     pub header: EntryHeader,
@@ -106,6 +113,7 @@ pub struct LocalX2ApicEntry {
 /// 5.2.12.13).
 #[derive(Clone, Copy, Debug)]
 #[repr(C)]
+#[non_exhaustive]
 pub struct X2ApicNmiEntry {
     /// Type and Length: the entry's type, and its length in bytes.
     pub header: EntryHeader,

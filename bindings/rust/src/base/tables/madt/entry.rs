@@ -16,6 +16,7 @@ use crate::base::memory::handler::PhysicalRecord;
 /// Type and Length: the two bytes that each entry of a MADT begins with (section 5.2.12).
 #[derive(Clone, Copy, Debug)]
 #[repr(C)]
+#[non_exhaustive]
 pub struct EntryHeader {
     /// Type: the entry's type.
     pub entry_type: u8,

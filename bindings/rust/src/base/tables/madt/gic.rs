@@ -11,6 +11,7 @@ use crate::base::extended::ExtendedField;
 /// 5.2.12.14).
 #[derive(Clone, Copy, Debug)]
 #[repr(C)]
+#[non_exhaustive]
 pub struct GiccEntry {
     /// Type and Length: the entry's type, and its length in bytes.
     pub header: EntryHeader,
@@ -52,6 +53,7 @@ pub struct GiccEntry {
 /// GIC Distributor (GICD): that of the generic interrupt controller (ACPI 6.4, section 5.2.12.15).
 #[derive(Clone, Copy, Debug)]
 #[repr(C)]
+#[non_exhaustive]
 pub struct GicdEntry {
     /// Type and Length: the entry's type, and its length in bytes.
     pub header: EntryHeader,
@@ -68,6 +70,7 @@ pub struct GicdEntry {
 /// GIC MSI Frame: a frame that turns messages into interrupts (ACPI 6.4, section 5.2.12.16).
 #[derive(Clone, Copy, Debug)]
 #[repr(C)]
+#[non_exhaustive]
 pub struct GicMsiFrameEntry {
     /// Type and Length: the entry's type, and its length in bytes.
     pub header: EntryHeader,
@@ -86,6 +89,7 @@ pub struct GicMsiFrameEntry {
 /// GIC Redistributor (GICR): a range of memory that holds redistributors (ACPI 6.4, section 5.2.12.17).
 #[derive(Clone, Copy, Debug)]
 #[repr(C)]
+#[non_exhaustive]
 pub struct GicRedistributorEntry {
     /// Type and Length: the entry's type, and its length in bytes.
     pub header: EntryHeader,
@@ -99,6 +103,7 @@ pub struct GicRedistributorEntry {
 /// 5.2.12.18).
 #[derive(Clone, Copy, Debug)]
 #[repr(C)]
+#[non_exhaustive]
 pub struct GicInterruptTranslationServiceEntry {
     /// Type and Length: the entry's type, and its length in bytes.
     pub header: EntryHeader,

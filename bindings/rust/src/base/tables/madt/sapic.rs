@@ -8,6 +8,7 @@ use super::entry::EntryHeader;
 /// I/O SAPIC: one that is used in place of the I/O APIC of the same id (ACPI 6.4, section 5.2.12.9).
 #[derive(Clone, Copy, Debug)]
 #[repr(C)]
+#[non_exhaustive]
 pub struct IoSapicEntry {
     /// Type and Length: the entry's type, and its length in bytes.
     pub header: EntryHeader,
@@ -23,6 +24,7 @@ pub struct IoSapicEntry {
 /// number, is not read (ACPI 6.4, section 5.2.12.10).
 #[derive(Clone, Copy, Debug)]
 #[repr(C)]
+#[non_exhaustive]
 pub struct LocalSapicEntry {
     /// Type and Length: the entry's type, and its length in bytes.
     pub header: EntryHeader,
@@ -41,6 +43,7 @@ pub struct LocalSapicEntry {
 /// Platform Interrupt Source: an interrupt of the platform itself (ACPI 6.4, section 5.2.12.11).
 #[derive(Clone, Copy, Debug)]
 #[repr(C)]
+#[non_exhaustive]
 pub struct PlatformInterruptSourceEntry {
     /// Type and Length: the entry's type, and its length in bytes.
     pub header: EntryHeader,

@@ -9,6 +9,7 @@ use super::entry::EntryHeader;
 /// 5.2.12.19).
 #[derive(Clone, Copy, Debug)]
 #[repr(C)]
+#[non_exhaustive]
 pub struct MultiprocessorWakeupEntry {
     /// Type and Length: the entry's type, and its length in bytes.
     pub header: EntryHeader,
@@ -20,6 +21,7 @@ pub struct MultiprocessorWakeupEntry {
 
 /// Command: what the firmware is to do by the Multiprocessor Wakeup Mailbox (section 5.2.12.19).
 #[derive(Clone, Copy, Debug, PartialEq, Eq)]
+#[non_exhaustive]
 pub enum MpProtectedModeWakeupCommand {
     /// Noop, 0: nothing is requested, and the firmware is ready for a command.
     Noop = 0,
@@ -50,7 +52,8 @@ impl TryFrom<u16> for MpProtectedModeWakeupCommand {
 
 /// The fields of the Multiprocessor Wakeup Mailbox (section 5.2.12.19). No function of this crate reads or
 /// writes one.
-#[derive(Clone, Copy)]
+#[derive(Clone, Copy, Debug)]
+#[non_exhaustive]
 pub struct MultiprocessorWakeupMailbox {
     /// Command: what the firmware is to do, by its number.
     pub command: u16,

@@ -3,6 +3,7 @@
 
 /// Interface Type: the interface of a serial port's registers, by its code in the SPCR.
 #[derive(Clone, Copy, Debug, PartialEq, Eq)]
+#[non_exhaustive]
 pub enum SpcrInterfaceType {
     /// Code 0x00: a full 16550.
     Full16550,

@@ -12,10 +12,11 @@ pub(crate) fn memory_affinity(r: &MemoryRange) -> Option<MemoryAffinity> {
         domain: r.domain,
         is_hot_pluggable: r.is_hot_pluggable as u8,
         is_non_volatile: r.is_non_volatile as u8,
+        reserved: [0; 2],
     })
 }
 
 /// The processor of an entry: of its Type, with this id, in these two domains.
 pub(crate) fn processor_affinity(kind: u8, id: u32, domain: u32, clock_domain: u32) -> ProcessorAffinity {
-    ProcessorAffinity { id, domain, clock_domain, entry_type: kind }
+    ProcessorAffinity { id, domain, clock_domain, entry_type: kind, reserved: [0; 3] }
 }

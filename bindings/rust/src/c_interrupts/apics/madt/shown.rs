@@ -4,5 +4,10 @@
 use crate::c_interrupts::apics::records::IoApic;
 
 pub(crate) fn io_apic_record(x: &crate::base::model::IoApic) -> IoApic {
-    IoApic { address: x.address, global_system_interrupt_base: x.global_system_interrupt_base, id: x.id }
+    IoApic {
+        address: x.address,
+        global_system_interrupt_base: x.global_system_interrupt_base,
+        id: x.id,
+        reserved: [0; 3],
+    }
 }

@@ -7,7 +7,13 @@ use crate::c_interrupts::arm::records::{GicCpuInterface, GicDistributor, GicMsiF
 use crate::c_lib::records::Range;
 
 pub(crate) fn distributor_record(d: &crate::arm::gic::GicDistributor) -> GicDistributor {
-    GicDistributor { address: d.address, id: d.id, system_vector_base: d.system_vector_base, version: d.version }
+    GicDistributor {
+        address: d.address,
+        id: d.id,
+        system_vector_base: d.system_vector_base,
+        version: d.version,
+        reserved: [0; 7],
+    }
 }
 
 pub(crate) fn cpu_interface_record(x: &crate::arm::gic::GicCpuInterface) -> GicCpuInterface {
@@ -30,6 +36,7 @@ pub(crate) fn cpu_interface_record(x: &crate::arm::gic::GicCpuInterface) -> GicC
         performance_trigger: x.performance_trigger.code(),
         maintenance_trigger: x.maintenance_trigger.code(),
         efficiency_class: x.efficiency_class,
+        reserved: [0; 3],
     }
 }
 
@@ -38,7 +45,7 @@ pub(crate) fn redistributors_record(r: &GicRedistributors) -> Range {
 }
 
 pub(crate) fn translation_service_record(t: &crate::arm::gic::GicTranslationService) -> GicTranslationService {
-    GicTranslationService { address: t.address, id: t.id }
+    GicTranslationService { address: t.address, id: t.id, reserved: [0; 4] }
 }
 
 pub(crate) fn msi_frame_record(f: &crate::arm::gic::GicMsiFrame) -> GicMsiFrame {
@@ -48,5 +55,6 @@ pub(crate) fn msi_frame_record(f: &crate::arm::gic::GicMsiFrame) -> GicMsiFrame 
         spi_base: spis_or(f.spis).base,
         spi_count: spis_or(f.spis).count,
         has_spis: f.spis.is_some() as u8,
+        reserved: [0; 7],
     }
 }

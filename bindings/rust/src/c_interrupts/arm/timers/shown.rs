@@ -26,6 +26,7 @@ pub(crate) fn timers_record(t: &Gtdt, is_malformed: bool) -> ArmTimers {
         el2: arm_timer_record(&t.el2_timer),
         virtual_el2: timer_or(t.virtual_el2_timer()),
         platform_timers_malformed: is_malformed as u8,
+        reserved: [0; 7],
     }
 }
 
@@ -44,6 +45,7 @@ pub(crate) fn frame_record(block: u64, f: &crate::arm::gtdt::GtFrame) -> GtFrame
         virtual_trigger: f.virtual_timer.trigger_mode.code(),
         is_secure: f.is_secure as u8,
         is_always_on: f.is_always_on as u8,
+        reserved: 0,
     }
 }
 
@@ -55,5 +57,6 @@ pub(crate) fn watchdog_record(w: &SbsaWatchdog) -> Watchdog {
         polarity: w.polarity.code(),
         trigger: w.trigger_mode.code(),
         is_secure: w.is_secure as u8,
+        reserved: 0,
     }
 }

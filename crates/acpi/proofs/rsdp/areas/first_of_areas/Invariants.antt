@@ -7,5 +7,5 @@ use Rattle.acpi.proofs.rsdp.areas.first_of_areas.Given as goal
 abbrev pub invariant-loop-area : goal.invariant-loop-area
 invariant-loop-area g l =
     let m = g.H.Lender.memory l.handler in
-    (found_among m (drop l.area-index l.areas) ≡ found_among m l.areas)
-    × Allows (g.H.Lender.may l.handler) (areas_ranges m (drop l.area-index l.areas))
+    (found_among l.accept m (drop l.area-index l.areas) ≡ found_among l.accept m l.areas)
+    × Allows (g.H.Lender.may l.handler) (areas_ranges l.accept m (drop l.area-index l.areas))

@@ -7,7 +7,7 @@ pub candidate_at-requires-clause-asked : goal.candidate_at-requires-clause-asked
 candidate_at-requires-clause-asked g c =
     let h = c.args.handler.now in
     let turn : c.loop-passed.passed < c.args.count = omega arith in
-    asked_candidate (g.H.Lender.may h) (g.H.Lender.memory h) _ _ _ turn c.loop-passed.invariant.2
+    asked_candidate (g.H.Lender.may h) c.args.accept (g.H.Lender.memory h) _ _ _ turn c.loop-passed.invariant.2
 
 pub loop-passed-preserved : goal.loop-passed-preserved
 loop-passed-preserved g c =
@@ -16,6 +16,6 @@ loop-passed-preserved g c =
     let turn : c.loop-passed.passed < c.args.count = omega arith in
     let most : c.loop-passed.passed + c.in-Err.refused ≤ c.args.count = omega (arith, c.in-Err.ensures.most) in (
       most,
-      walk_past_all m _ _ _ _ _ c.loop-passed.invariant.1 most c.in-Err.ensures.refused,
-      asked_past_all m _ _ (g.H.Lender.may h) _ _ c.loop-passed.invariant.2 most c.in-Err.ensures.refused,
+      walk_past_all c.args.accept m _ _ _ _ _ c.loop-passed.invariant.1 most c.in-Err.ensures.refused,
+      asked_past_all c.args.accept m _ _ (g.H.Lender.may h) _ _ c.loop-passed.invariant.2 most c.in-Err.ensures.refused,
     )

@@ -12,28 +12,28 @@ loop-k-preserved-then-not-has_signature g c =
     let m = g.H.Lender.memory c.args.handler.now in
     let room : 16 * c.loop-k.k + 36 ≤ room_of c.args.area = omega arith in
     let other = sym c.has_signature.ensures ∙ c.if-not-has_signature.true in (
-      walk_past _ _ _ _ _ c.loop-k.invariant.0 turn _ _ memory c.requires.lent room other,
-      asked_next (g.H.Lender.may c.args.handler.now) m _ _ _ _ turn c.loop-k.invariant.1
-          (unsigned_refused m _ _ _ _ memory c.requires.lent room other),
+      walk_past c.args.accept _ _ _ _ _ c.loop-k.invariant.0 turn _ _ memory c.requires.lent room other,
+      asked_next (g.H.Lender.may c.args.handler.now) c.args.accept m _ _ _ _ turn c.loop-k.invariant.1
+          (unsigned_refused c.args.accept m _ _ _ _ memory c.requires.lent room other),
     )
 
 pub returns-in-Ok-clause-found : goal.returns-in-Ok-clause-found
 returns-in-Ok-clause-found g c =
     let turn : c.loop-k.k < count_of c.args.area = omega arith in
-    rw c.in-Ok.ensures.place (walk_here _ _ _ _ _ c.loop-k.invariant.0 turn _ c.in-Ok.ensures.rsdp)
+    rw c.in-Ok.ensures.place (walk_here c.args.accept _ _ _ _ _ c.loop-k.invariant.0 turn _ c.in-Ok.ensures.rsdp)
 
 pub loop-k-preserved : goal.loop-k-preserved
 loop-k-preserved g c =
     let turn : c.loop-k.k < count_of c.args.area = omega arith in (
-      walk_later _ _ _ _ _ c.loop-k.invariant.0 turn _ c.in_default.ensures.rsdp,
-      asked_next (g.H.Lender.may c.args.handler.now) (g.H.Lender.memory c.args.handler.now) _ _ _ _ turn
+      walk_later c.args.accept _ _ _ _ _ c.loop-k.invariant.0 turn _ c.in_default.ensures.rsdp,
+      asked_next (g.H.Lender.may c.args.handler.now) c.args.accept (g.H.Lender.memory c.args.handler.now) _ _ _ _ turn
           c.loop-k.invariant.1 c.in_default.ensures.rsdp,
     )
 
-pub map_rsdp-requires : goal.map_rsdp-requires
-map_rsdp-requires g c =
+pub map_accepted_rsdp-requires : goal.map_accepted_rsdp-requires
+map_accepted_rsdp-requires g c =
     let turn : c.loop-k.k < count_of c.args.area = omega arith in
-    asked_candidate (g.H.Lender.may c.args.handler.now) (g.H.Lender.memory c.args.handler.now) _ _ _ turn
+    asked_candidate (g.H.Lender.may c.args.handler.now) c.args.accept (g.H.Lender.memory c.args.handler.now) _ _ _ turn
     c.loop-k.invariant.1
 
 pub has_signature-requires : goal.has_signature-requires
@@ -46,5 +46,5 @@ loop-k-init g c =
     let m = g.H.Lender.memory c.args.handler.now in
     let may = g.H.Lender.may c.args.handler.now in
     let s = c.args.area in
-    not_begun (λ n a. (walk m n a ≡ walk m (count_of s) s.start) × Allows may (walk_ranges m n a)) (count_of s) s.start
-    (refl, asked_walk may m s _ c.requires.asked c.requires.lent)
+    not_begun (λ n a. (walk c.args.accept m n a ≡ walk c.args.accept m (count_of s) s.start) × Allows may (walk_ranges c.args.accept m n a)) (count_of s) s.start
+    (refl, asked_walk may c.args.accept m s _ c.requires.asked c.requires.lent)

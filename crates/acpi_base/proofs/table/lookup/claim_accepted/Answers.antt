@@ -1,7 +1,7 @@
 use Rattle.std.proofs.Common.{arith}
 use Rattle.acpi_base.specs.Words.{claimed_at, claimed_from, shown_by}
 use Rattle.acpi_base.proofs.FromStd.{common_steps}
-use Rattle.acpi_base.proofs.Accepted.{accepted_last, left_decides, own_ranges}
+use Rattle.acpi_base.proofs.Accepted.{accepted_last, own_ranges}
 use Rattle.acpi_base.proofs.table.lookup.claim_accepted.Goals as goal
 
 pub claim_whole-requires-clause-asked : goal.claim_whole-requires-clause-asked
@@ -23,8 +23,6 @@ returns-in-Ok-clause-shown g c =
     let own = g.met.T.AcpiTable.agrees in
     let last = accepted_last c.args.accept (g.H.Lender.memory (claimed_from c.args.head)) g.T.AcpiTable.kind
     g.T.AcpiTable.SIGNATURE g.T.PhysicalRecord.MIN_LENGTH (claimed_at c.args.head) own.0 own.1 own.2 in
-    let left = left_decides c.args.accept g.T.AcpiTable.kind g.T.AcpiTable.SIGNATURE (shown_by c.in_ok-claim.claim)
-    own.0 c.requires.some in
     grind (arith, common_steps)
 
 pub returns-in-Err-clause-shown : goal.returns-in-Err-clause-shown
@@ -32,6 +30,4 @@ returns-in-Err-clause-shown g c =
     let own = g.met.T.AcpiTable.agrees in
     let last = accepted_last c.args.accept (g.H.Lender.memory (claimed_from c.args.head)) g.T.AcpiTable.kind
     g.T.AcpiTable.SIGNATURE g.T.PhysicalRecord.MIN_LENGTH (claimed_at c.args.head) own.0 own.1 own.2 in
-    let left = left_decides c.args.accept g.T.AcpiTable.kind g.T.AcpiTable.SIGNATURE (shown_by c.in_ok-claim.claim)
-    own.0 c.requires.some in
     grind (arith, common_steps)

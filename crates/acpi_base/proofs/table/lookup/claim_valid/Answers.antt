@@ -11,11 +11,11 @@ claim_whole-requires-clause-asked g c =
     (claimed_at c.args.head) (shown_by c.args.head) own.0 own.1 own.2 in
     grind arith
 
-pub validate_rest-requires-clause-names : goal.validate_rest-requires-clause-names
-validate_rest-requires-clause-names g c = grind (arith, strict_names)
+pub check_valid-requires-clause-names : goal.check_valid-requires-clause-names
+check_valid-requires-clause-names g c = grind (arith, strict_names)
 
-pub validate_rest-requires-clause-length : goal.validate_rest-requires-clause-length
-validate_rest-requires-clause-length g c = grind (arith, strict_length)
+pub check_valid-requires-clause-length : goal.check_valid-requires-clause-length
+check_valid-requires-clause-length g c = grind (arith, strict_length)
 
 pub returns-in_err-claim-clause-shown : goal.returns-in_err-claim-clause-shown
 returns-in_err-claim-clause-shown g c =

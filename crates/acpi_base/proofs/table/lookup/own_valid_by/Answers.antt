@@ -1,5 +1,5 @@
 use Rattle.acpi_base.proofs.AllowedRanges.{asked_own}
-use Rattle.acpi_base.proofs.OwnTable.{own_accepted_is, own_signature}
+use Rattle.acpi_base.proofs.OwnTable.{own_accepted_is, own_signature, same_own_accepted}
 use Rattle.acpi_base.proofs.table.lookup.own_valid_by.Goals as goal
 
 pub claim_by-requires-clause-signature : goal.claim_by-requires-clause-signature
@@ -17,3 +17,8 @@ returns-clause-table g c =
     rw (own_accepted_is c.args.accept (g.H.Lender.memory c.args.handler.now) c.leading-signature.result c.args.address _
     c.in_ok-head.ensures.shown own)
     (rw (c.in_ok-head.ensures.handler, c.in_ok-head.ensures.start) at c.claim_by.ensures.shown)
+
+pub returns-clause-footprint : goal.returns-clause-footprint
+returns-clause-footprint g c n h =
+    rw (same_own_accepted c.args.accept (g.H.Lender.memory c.args.handler.now) n c.args.address h)
+    (returns-clause-table g c)

@@ -1,4 +1,5 @@
 use Rattle.std.proofs.Common.{◌∙◌, ap, rules, sym}
+use Rattle.acpi_base.proofs.OwnTable.{same_table}
 use Rattle.acpi_base.specs.Words.{check_names}
 use Rattle.acpi_base.proofs.table.lookup.valid_at.Goals as goal
 
@@ -8,3 +9,8 @@ returns-in_err-head-clause-table g c =
     let refused = c.in_err-head.ensures.unaccepted 0 g.T.AcpiTable.kind (own.0 ∙ sym c.SIGNATURE.ensures)
     (own.2 ∙ ap check_names (sym c.SIGNATURE.ensures)) in
     search rules
+
+pub returns-in_err-head-clause-footprint : goal.returns-in_err-head-clause-footprint
+returns-in_err-head-clause-footprint g c n h =
+    rw (same_table g.T.AcpiTable.kind (g.H.Lender.memory c.args.handler.now) n c.args.address h)
+    (returns-in_err-head-clause-table g c)
