@@ -288,8 +288,15 @@ enum zacpi_start {
 };
 
 enum zacpi_accept {
-    ZACPI_ACCEPT_SUMS = 1, /* ZACPI_SDT_INVALID_CHECKSUM */
-    ZACPI_ACCEPT_IDS = 2   /* ZACPI_SDT_INVALID_OEM_ID and ZACPI_SDT_INVALID_TABLE_ID */
+    ZACPI_ACCEPT_SUMS = 1,     /* ZACPI_SDT_INVALID_CHECKSUM */
+    ZACPI_ACCEPT_IDS = 2,      /* ZACPI_SDT_INVALID_OEM_ID and ZACPI_SDT_INVALID_TABLE_ID */
+    ZACPI_ACCEPT_RSDP_IDS = 4, /* ZACPI_RSDP_INVALID_OEM_ID */
+    /* An RSDP of Revision 1, which no specification has, is read as one of Revision 0: by its first
+     * 20 bytes, which point to the RSDT. */
+    ZACPI_ACCEPT_RSDP_REVISION = 8,
+    /* So is an RSDP of which only the first 20 bytes pass their checks: its Length is below 36, or as
+     * many bytes aren't mapped or don't sum to 0. */
+    ZACPI_ACCEPT_RSDP_FIRST = 16
 };
 
 /* Where tables are looked for. The regions ascend and share no byte; zacpi_clip_ranges makes such.
@@ -299,8 +306,8 @@ struct zacpi_source {
     zacpi_size regions_length;
     zacpi_u64 address; /* where to start; a search doesn't look at it */
     uint32_t start;   /* one of enum zacpi_start */
-    uint32_t accept;  /* 0, or bits of enum zacpi_accept: a root table, a listed table or a DSDT
-                       * with no other error is valid. In an RSDP no error is accepted */
+    uint32_t accept;  /* 0, or bits of enum zacpi_accept: an RSDP, a root table, a listed table or
+                       * a DSDT with no other error is valid */
 };
 
 /* Lists the ranges to make regions of, from ranges in any order: sorted, joined where they overlap
