@@ -417,7 +417,7 @@ struct zacpi_aml_table {
  * than 20 bytes, or than 36 above revision 0, ZACPI_RSDP_INCORRECT_SIGNATURE,
  * ZACPI_RSDP_INVALID_OEM_ID, ZACPI_RSDP_INVALID_CHECKSUM of the first 20 bytes or for a Length
  * below 36, or above revision 0 ZACPI_MAP_FAILED if it is shorter than Length, or
- * ZACPI_RSDP_INVALID_CHECKSUM of all. */
+ * ZACPI_RSDP_INVALID_CHECKSUM of all. 20 bytes are enough where `accept` accepts it by these. */
 ZACPI_STATUS zacpi_start_of_rsdp(const uint8_t *rsdp, size_t rsdp_length,
                                  struct zacpi_source *source);
 
@@ -459,7 +459,7 @@ ZACPI_STATUS zacpi_open(const struct zacpi_source *source, struct zacpi_root *ou
 /* Returns the RSDP of a start (section 5.2.5.3), whatever is at its addresses: with each of these
  * as a start, zacpi_list_members returns what that root table lists. Fails with an opening error,
  * except the errors of the root table; ZACPI_UNKNOWN_START is also the error of a start at a root
- * table. None writes `signature`. */
+ * table. None writes `signature`. One that `accept` reads as of Revision 0 is returned as such. */
 ZACPI_STATUS zacpi_get_rsdp(const struct zacpi_source *source, struct zacpi_rsdp *out,
                             struct zacpi_signature *signature);
 
