@@ -230,30 +230,37 @@ enum zacpi_status_code {
                                  * Signature, and a Length that is aml_length */
 };
 
-/* Returns the name of a status, as acpi_view prints it ("MapFailed"), or "Unknown". Each unit that
- * calls it contains all names: call it in only one. */
+/* Returns the name of a status ("ZACPI_MAP_FAILED"), or "Unknown". Each unit that calls it contains
+ * all names: call it in only one. */
 static inline const char *zacpi_status_name(zacpi_status status) {
     /* One text: a table of pointers would have to be relocated first. */
     static const char names[] =
-        "0:Ok\0""1:RegionsNotAscending\0""2:RegionTooHigh\0""3:UnknownStart\0""4:RangeTooHigh\0"
-        "5:UnknownWidth\0""6:NoSuchState\0""7:UnknownPolicy\0""10:MapFailed\0""11:NoValidRsdp\0"
-        "12:RsdpIncorrectSignature\0""13:RsdpInvalidOemId\0""14:RsdpInvalidChecksum\0"
-        "20:SdtInvalidSignature\0""21:SdtInvalidOemId\0""22:SdtInvalidTableId\0"
-        "23:SdtInvalidLength\0""24:SdtInvalidChecksum\0""25:TableMissing\0""30:InvalidDsdtAddress\0"
-        "31:InvalidGenericAddress\0""32:NoSuchFunction\0""33:NoRegister\0""34:NoReset\0"
-        "35:SleepStateAbsent\0""36:SleepStateNotSeen\0""37:AmlInvalid\0"
-        "38:SleepTypeTooHigh\0""40:NoApics\0""41:NoGic\0"
-        "42:NoSuchInterrupt\0""43:NoSuchIoApic\0""44:InvalidMadt UnexpectedEntry\0"
-        "45:InvalidMadt InterruptOverrideEntryHasInvalidBus\0""46:InvalidMadt InvalidLocalNmiLine\0"
-        "47:InvalidMadt MpsIntiInvalidPolarity\0""48:InvalidMadt MpsIntiInvalidTriggerMode\0"
-        "49:InvalidMadt InvalidEntryLength\0""50:InvalidSrat InvalidEntryLength\0"
-        "51:InvalidSrat InvalidMemoryRange\0""52:NoDomain\0""53:NoDistance\0"
-        "54:InvalidIommu InvalidStructureLength\0""55:InvalidIommu InvalidMemoryRange\0"
-        "56:NoIommu\0""57:InvalidTimerLength\0""58:NoRiscv\0""59:ShortRiscvEntry\0"
-        "60:UnknownCode\0"
-        "61:NoProcessor\0""62:IdOfAll\0""63:UidOfAll\0"
-        "64:BadMatrix\0""65:NoAddress\0""66:BadName\0""67:NoRoom\0""68:TooLong\0""69:BadRegister\0"
-        "70:BadRange\0""71:SameAsBus\0""72:TooManyFrames\0""73:BadTable\0""74:HasHeader\0";
+        "0:ZACPI_OK\0""1:ZACPI_REGIONS_NOT_ASCENDING\0""2:ZACPI_REGION_TOO_HIGH\0"
+        "3:ZACPI_UNKNOWN_START\0""4:ZACPI_RANGE_TOO_HIGH\0""5:ZACPI_UNKNOWN_WIDTH\0"
+        "6:ZACPI_NO_SUCH_STATE\0""7:ZACPI_UNKNOWN_POLICY\0""10:ZACPI_MAP_FAILED\0"
+        "11:ZACPI_NO_VALID_RSDP\0""12:ZACPI_RSDP_INCORRECT_SIGNATURE\0"
+        "13:ZACPI_RSDP_INVALID_OEM_ID\0""14:ZACPI_RSDP_INVALID_CHECKSUM\0"
+        "20:ZACPI_SDT_INVALID_SIGNATURE\0""21:ZACPI_SDT_INVALID_OEM_ID\0"
+        "22:ZACPI_SDT_INVALID_TABLE_ID\0""23:ZACPI_SDT_INVALID_LENGTH\0"
+        "24:ZACPI_SDT_INVALID_CHECKSUM\0""25:ZACPI_TABLE_MISSING\0"
+        "30:ZACPI_INVALID_DSDT_ADDRESS\0""31:ZACPI_INVALID_GENERIC_ADDRESS\0"
+        "32:ZACPI_NO_SUCH_FUNCTION\0""33:ZACPI_NO_REGISTER\0""34:ZACPI_NO_RESET\0"
+        "35:ZACPI_SLEEP_STATE_ABSENT\0""36:ZACPI_SLEEP_STATE_NOT_SEEN\0""37:ZACPI_AML_INVALID\0"
+        "38:ZACPI_SLEEP_TYPE_TOO_HIGH\0""40:ZACPI_NO_APICS\0""41:ZACPI_NO_GIC\0"
+        "42:ZACPI_NO_SUCH_INTERRUPT\0""43:ZACPI_NO_SUCH_IO_APIC\0"
+        "44:ZACPI_MADT_UNEXPECTED_ENTRY\0"
+        "45:ZACPI_MADT_INTERRUPT_OVERRIDE_ENTRY_HAS_INVALID_BUS\0"
+        "46:ZACPI_MADT_INVALID_LOCAL_NMI_LINE\0""47:ZACPI_MADT_MPS_INTI_INVALID_POLARITY\0"
+        "48:ZACPI_MADT_MPS_INTI_INVALID_TRIGGER_MODE\0""49:ZACPI_MADT_INVALID_ENTRY_LENGTH\0"
+        "50:ZACPI_NUMA_INVALID_ENTRY_LENGTH\0""51:ZACPI_NUMA_INVALID_MEMORY_RANGE\0"
+        "52:ZACPI_NO_DOMAIN\0""53:ZACPI_NO_DISTANCE\0""54:ZACPI_IOMMU_INVALID_STRUCTURE_LENGTH\0"
+        "55:ZACPI_IOMMU_INVALID_MEMORY_RANGE\0""56:ZACPI_NO_IOMMU\0"
+        "57:ZACPI_INVALID_TIMER_LENGTH\0""58:ZACPI_NO_RISCV\0""59:ZACPI_SHORT_RISCV_ENTRY\0"
+        "60:ZACPI_UNKNOWN_CODE\0""61:ZACPI_NO_PROCESSOR\0""62:ZACPI_ID_OF_ALL\0"
+        "63:ZACPI_UID_OF_ALL\0""64:ZACPI_BAD_MATRIX\0""65:ZACPI_NO_ADDRESS\0""66:ZACPI_BAD_NAME\0"
+        "67:ZACPI_NO_ROOM\0""68:ZACPI_TOO_LONG\0""69:ZACPI_BAD_REGISTER\0""70:ZACPI_BAD_RANGE\0"
+        "71:ZACPI_SAME_AS_BUS\0""72:ZACPI_TOO_MANY_FRAMES\0""73:ZACPI_BAD_TABLE\0"
+        "74:ZACPI_HAS_HEADER\0";
     const char *name = names;
     while (*name) {
         zacpi_status number = 0;
@@ -288,8 +295,15 @@ enum zacpi_start {
 };
 
 enum zacpi_accept {
-    ZACPI_ACCEPT_SUMS = 1, /* ZACPI_SDT_INVALID_CHECKSUM */
-    ZACPI_ACCEPT_IDS = 2   /* ZACPI_SDT_INVALID_OEM_ID and ZACPI_SDT_INVALID_TABLE_ID */
+    ZACPI_ACCEPT_SUMS = 1,     /* ZACPI_SDT_INVALID_CHECKSUM */
+    ZACPI_ACCEPT_IDS = 2,      /* ZACPI_SDT_INVALID_OEM_ID and ZACPI_SDT_INVALID_TABLE_ID */
+    ZACPI_ACCEPT_RSDP_IDS = 4, /* ZACPI_RSDP_INVALID_OEM_ID */
+    /* An RSDP of Revision 1, which no specification has, is read as one of Revision 0: by its first
+     * 20 bytes, which point to the RSDT. */
+    ZACPI_ACCEPT_RSDP_REVISION = 8,
+    /* So is an RSDP of which only the first 20 bytes pass their checks: its Length is below 36, or as
+     * many bytes aren't mapped or don't sum to 0. */
+    ZACPI_ACCEPT_RSDP_FIRST = 16
 };
 
 /* Where tables are looked for. The regions ascend and share no byte; zacpi_clip_ranges makes such.
@@ -299,8 +313,8 @@ struct zacpi_source {
     zacpi_size regions_length;
     zacpi_u64 address; /* where to start; a search doesn't look at it */
     uint32_t start;   /* one of enum zacpi_start */
-    uint32_t accept;  /* 0, or bits of enum zacpi_accept: a root table, a listed table or a DSDT
-                       * with no other error is valid. In an RSDP no error is accepted */
+    uint32_t accept;  /* 0, or bits of enum zacpi_accept: an RSDP, a root table, a listed table or
+                       * a DSDT with no other error is valid */
 };
 
 /* Lists the ranges to make regions of, from ranges in any order: sorted, joined where they overlap
@@ -410,7 +424,7 @@ struct zacpi_aml_table {
  * than 20 bytes, or than 36 above revision 0, ZACPI_RSDP_INCORRECT_SIGNATURE,
  * ZACPI_RSDP_INVALID_OEM_ID, ZACPI_RSDP_INVALID_CHECKSUM of the first 20 bytes or for a Length
  * below 36, or above revision 0 ZACPI_MAP_FAILED if it is shorter than Length, or
- * ZACPI_RSDP_INVALID_CHECKSUM of all. */
+ * ZACPI_RSDP_INVALID_CHECKSUM of all. 20 bytes are enough where `accept` accepts it by these. */
 ZACPI_STATUS zacpi_start_of_rsdp(const uint8_t *rsdp, size_t rsdp_length,
                                  struct zacpi_source *source);
 
@@ -452,7 +466,7 @@ ZACPI_STATUS zacpi_open(const struct zacpi_source *source, struct zacpi_root *ou
 /* Returns the RSDP of a start (section 5.2.5.3), whatever is at its addresses: with each of these
  * as a start, zacpi_list_members returns what that root table lists. Fails with an opening error,
  * except the errors of the root table; ZACPI_UNKNOWN_START is also the error of a start at a root
- * table. None writes `signature`. */
+ * table. None writes `signature`. One that `accept` reads as of Revision 0 is returned as such. */
 ZACPI_STATUS zacpi_get_rsdp(const struct zacpi_source *source, struct zacpi_rsdp *out,
                             struct zacpi_signature *signature);
 

@@ -32,100 +32,105 @@ typedef uint64_t zacpi_number;
     return zacpi_returned
 #endif
 
-/* The layouts by which the library reads and writes records: a record's size, its last field and that one's offset, the
- * same with pointers of 32 bits and 64. An array of -1 here is a record that is laid out otherwise, by a flag that no
- * pragma undoes, as gcc's -fpack-struct. A kernel's own offsetof may be no constant. */
+/* The layouts by which the library reads and writes records, which have no padding: a record's size and its alignment,
+ * the same with pointers of 32 bits and 64. An array of -1 here is a record that is laid out otherwise, by a flag that
+ * no pragma undoes, as gcc's -fpack-struct. A kernel's own offsetof may be no constant. */
 #if defined(__GNUC__)
 #define ZACPI_OFFSET(record, field) __builtin_offsetof(struct record, field)
 #else
 #define ZACPI_OFFSET(record, field) offsetof(struct record, field)
 #endif
-#define ZACPI_LAID_OUT(record, size, field, offset) \
-    typedef char record##_is_laid_out[sizeof(struct record) == size && ZACPI_OFFSET(record, field) == offset ? 1 : -1]
-ZACPI_LAID_OUT(zacpi_region, 24, length, 16);
-ZACPI_LAID_OUT(zacpi_range, 16, length, 8);
-ZACPI_LAID_OUT(zacpi_source, 32, accept, 28);
-ZACPI_LAID_OUT(zacpi_place, 16, offset, 8);
-ZACPI_LAID_OUT(zacpi_signature, 4, letters, 0);
-ZACPI_LAID_OUT(zacpi_root, 32, reserved_2, 28);
-ZACPI_LAID_OUT(zacpi_rsdp, 32, reserved, 31);
-ZACPI_LAID_OUT(zacpi_table, 48, reserved_2, 44);
-ZACPI_LAID_OUT(zacpi_member, 56, reserved, 53);
-ZACPI_LAID_OUT(zacpi_fault, 16, reserved, 13);
-ZACPI_LAID_OUT(zacpi_walk, 8, length_width, 7);
-ZACPI_LAID_OUT(zacpi_entry, 16, length, 12);
-ZACPI_LAID_OUT(zacpi_aml_table, 24, table_address, 16);
-ZACPI_LAID_OUT(zacpi_generic_address, 16, reserved, 12);
-ZACPI_LAID_OUT(zacpi_register, 24, reserved, 17);
-ZACPI_LAID_OUT(zacpi_pm_timer, 24, reserved, 18);
-ZACPI_LAID_OUT(zacpi_hpet_info, 16, page_protection, 15);
-ZACPI_LAID_OUT(zacpi_boot_graphic, 24, reserved, 20);
-ZACPI_LAID_OUT(zacpi_gpe_block, 16, reserved, 11);
-ZACPI_LAID_OUT(zacpi_fixed_hardware, 360, hypervisor_id, 352);
-ZACPI_LAID_OUT(zacpi_facs, 40, reserved, 33);
-ZACPI_LAID_OUT(zacpi_console, 56, reserved, 55);
-ZACPI_LAID_OUT(zacpi_step, 40, reserved, 34);
-ZACPI_LAID_OUT(zacpi_plan, 328, reserved, 324);
-ZACPI_LAID_OUT(zacpi_sleep_types, 2, b, 1);
-ZACPI_LAID_OUT(zacpi_pci_region, 16, reserved, 12);
-ZACPI_LAID_OUT(zacpi_ecam_range, 24, reserved, 19);
-ZACPI_LAID_OUT(zacpi_interrupt_model, 56, reserved, 50);
-ZACPI_LAID_OUT(zacpi_local_apic, 16, reserved, 9);
-ZACPI_LAID_OUT(zacpi_io_apic, 12, reserved, 9);
-ZACPI_LAID_OUT(zacpi_interrupt_source_override, 8, bus, 7);
-ZACPI_LAID_OUT(zacpi_nmi_source, 8, reserved, 6);
-ZACPI_LAID_OUT(zacpi_nmi_line, 8, trigger, 7);
-ZACPI_LAID_OUT(zacpi_processor, 12, is_x2apic, 11);
-ZACPI_LAID_OUT(zacpi_entry_fault, 16, reserved, 14);
-ZACPI_LAID_OUT(zacpi_platform_lists, 120, nmi_lines_count, 112);
-ZACPI_LAID_OUT(zacpi_interrupt, 8, reserved, 6);
-ZACPI_LAID_OUT(zacpi_io_apic_pin, 16, pin, 12);
-ZACPI_LAID_OUT(zacpi_isa_route, 28, reserved, 26);
-ZACPI_LAID_OUT(zacpi_isa_interrupts, 448, routes, 0);
-ZACPI_LAID_OUT(zacpi_gic_distributor, 24, reserved, 17);
-ZACPI_LAID_OUT(zacpi_gic_cpu_interface, 80, reserved, 77);
-ZACPI_LAID_OUT(zacpi_gic_translation_service, 16, reserved, 12);
-ZACPI_LAID_OUT(zacpi_gic_msi_frame, 24, reserved, 17);
-ZACPI_LAID_OUT(zacpi_arm_timer, 8, present, 7);
-ZACPI_LAID_OUT(zacpi_arm_timers, 64, reserved, 57);
-ZACPI_LAID_OUT(zacpi_gt_frame, 40, reserved, 39);
-ZACPI_LAID_OUT(zacpi_watchdog, 24, reserved, 23);
-ZACPI_LAID_OUT(zacpi_rintc, 40, reserved, 33);
-ZACPI_LAID_OUT(zacpi_imsic, 16, reserved, 13);
-ZACPI_LAID_OUT(zacpi_aplic, 40, reserved, 34);
-ZACPI_LAID_OUT(zacpi_plic, 40, reserved, 34);
-ZACPI_LAID_OUT(zacpi_memory_affinity, 24, reserved, 22);
-ZACPI_LAID_OUT(zacpi_processor_affinity, 16, reserved, 13);
-ZACPI_LAID_OUT(zacpi_generic_initiator, 24, reserved, 22);
-ZACPI_LAID_OUT(zacpi_its_affinity, 8, its_id, 4);
-ZACPI_LAID_OUT(zacpi_localities, 16, reserved, 9);
-ZACPI_LAID_OUT(zacpi_dmar_flags, 4, reserved, 3);
-ZACPI_LAID_OUT(zacpi_hop, 2, function, 1);
-ZACPI_LAID_OUT(zacpi_dmar_unit, 24, reserved, 21);
-ZACPI_LAID_OUT(zacpi_dmar_scope, 48, reserved, 44);
-ZACPI_LAID_OUT(zacpi_dmar_source, 32, reserved, 28);
-ZACPI_LAID_OUT(zacpi_dmar_reserved, 24, reserved, 18);
-ZACPI_LAID_OUT(zacpi_dmar_root_ports, 4, flags, 3);
-ZACPI_LAID_OUT(zacpi_dmar_affinity, 16, reserved, 12);
-ZACPI_LAID_OUT(zacpi_ivrs_unit, 32, reserved, 31);
-ZACPI_LAID_OUT(zacpi_ivrs_device, 40, reserved, 35);
-ZACPI_LAID_OUT(zacpi_ivrs_memory, 24, reserved, 22);
-ZACPI_LAID_OUT(zacpi_ivrs_entry, 72, reserved, 71);
-ZACPI_LAID_OUT(zacpi_table_ids, 28, creator_revision, 24);
-ZACPI_LAID_OUT(zacpi_madt_contents, 104, reserved, 98);
-ZACPI_LAID_OUT(zacpi_gic_contents, 88, msi_frames_length, 80);
-ZACPI_LAID_OUT(zacpi_riscv_contents, 64, plics_length, 56);
-ZACPI_LAID_OUT(zacpi_rhct_contents, 48, reserved, 44);
-ZACPI_LAID_OUT(zacpi_apic_domain, 8, domain, 4);
-ZACPI_LAID_OUT(zacpi_gicc_domain, 8, domain, 4);
-ZACPI_LAID_OUT(zacpi_srat_contents, 48, ranges_length, 40);
-ZACPI_LAID_OUT(zacpi_spcr_contents, 64, reserved, 59);
-ZACPI_LAID_OUT(zacpi_platform_timer, 56, watchdog, 32);
-ZACPI_LAID_OUT(zacpi_gtdt_contents, 80, platform_timers_length, 72);
-ZACPI_LAID_OUT(zacpi_facs_contents, 24, reserved, 18);
-ZACPI_LAID_OUT(zacpi_aml_contents, 24, reserved, 17);
-ZACPI_LAID_OUT(zacpi_listed_table, 16, length, 8);
-ZACPI_LAID_OUT(zacpi_machine, 80, facs_length, 72);
+#define ZACPI_LAID_OUT(record, size, alignment) \
+    struct record##_after { \
+        char first; \
+        struct record at; \
+    }; \
+    typedef char record##_is_laid_out[sizeof(struct record) == size && \
+                                      ZACPI_OFFSET(record##_after, at) == alignment ? 1 : -1]
+ZACPI_LAID_OUT(zacpi_region, 24, 8);
+ZACPI_LAID_OUT(zacpi_range, 16, 8);
+ZACPI_LAID_OUT(zacpi_source, 32, 8);
+ZACPI_LAID_OUT(zacpi_place, 16, 8);
+ZACPI_LAID_OUT(zacpi_signature, 4, 1);
+ZACPI_LAID_OUT(zacpi_root, 32, 8);
+ZACPI_LAID_OUT(zacpi_rsdp, 32, 8);
+ZACPI_LAID_OUT(zacpi_table, 48, 8);
+ZACPI_LAID_OUT(zacpi_member, 56, 8);
+ZACPI_LAID_OUT(zacpi_fault, 16, 8);
+ZACPI_LAID_OUT(zacpi_walk, 8, 4);
+ZACPI_LAID_OUT(zacpi_entry, 16, 8);
+ZACPI_LAID_OUT(zacpi_aml_table, 24, 8);
+ZACPI_LAID_OUT(zacpi_generic_address, 16, 8);
+ZACPI_LAID_OUT(zacpi_register, 24, 8);
+ZACPI_LAID_OUT(zacpi_pm_timer, 24, 8);
+ZACPI_LAID_OUT(zacpi_hpet_info, 16, 8);
+ZACPI_LAID_OUT(zacpi_boot_graphic, 24, 8);
+ZACPI_LAID_OUT(zacpi_gpe_block, 16, 8);
+ZACPI_LAID_OUT(zacpi_fixed_hardware, 360, 8);
+ZACPI_LAID_OUT(zacpi_facs, 40, 8);
+ZACPI_LAID_OUT(zacpi_console, 56, 8);
+ZACPI_LAID_OUT(zacpi_step, 40, 8);
+ZACPI_LAID_OUT(zacpi_plan, 328, 8);
+ZACPI_LAID_OUT(zacpi_sleep_types, 2, 1);
+ZACPI_LAID_OUT(zacpi_pci_region, 16, 8);
+ZACPI_LAID_OUT(zacpi_ecam_range, 24, 8);
+ZACPI_LAID_OUT(zacpi_interrupt_model, 56, 8);
+ZACPI_LAID_OUT(zacpi_local_apic, 16, 8);
+ZACPI_LAID_OUT(zacpi_io_apic, 12, 4);
+ZACPI_LAID_OUT(zacpi_interrupt_source_override, 8, 4);
+ZACPI_LAID_OUT(zacpi_nmi_source, 8, 4);
+ZACPI_LAID_OUT(zacpi_nmi_line, 8, 4);
+ZACPI_LAID_OUT(zacpi_processor, 12, 4);
+ZACPI_LAID_OUT(zacpi_entry_fault, 16, 8);
+ZACPI_LAID_OUT(zacpi_platform_lists, 120, 8);
+ZACPI_LAID_OUT(zacpi_interrupt, 8, 4);
+ZACPI_LAID_OUT(zacpi_io_apic_pin, 16, 4);
+ZACPI_LAID_OUT(zacpi_isa_route, 28, 4);
+ZACPI_LAID_OUT(zacpi_isa_interrupts, 448, 4);
+ZACPI_LAID_OUT(zacpi_gic_distributor, 24, 8);
+ZACPI_LAID_OUT(zacpi_gic_cpu_interface, 80, 8);
+ZACPI_LAID_OUT(zacpi_gic_translation_service, 16, 8);
+ZACPI_LAID_OUT(zacpi_gic_msi_frame, 24, 8);
+ZACPI_LAID_OUT(zacpi_arm_timer, 8, 4);
+ZACPI_LAID_OUT(zacpi_arm_timers, 64, 8);
+ZACPI_LAID_OUT(zacpi_gt_frame, 40, 8);
+ZACPI_LAID_OUT(zacpi_watchdog, 24, 8);
+ZACPI_LAID_OUT(zacpi_rintc, 40, 8);
+ZACPI_LAID_OUT(zacpi_imsic, 16, 4);
+ZACPI_LAID_OUT(zacpi_aplic, 40, 8);
+ZACPI_LAID_OUT(zacpi_plic, 40, 8);
+ZACPI_LAID_OUT(zacpi_memory_affinity, 24, 8);
+ZACPI_LAID_OUT(zacpi_processor_affinity, 16, 4);
+ZACPI_LAID_OUT(zacpi_generic_initiator, 24, 4);
+ZACPI_LAID_OUT(zacpi_its_affinity, 8, 4);
+ZACPI_LAID_OUT(zacpi_localities, 16, 8);
+ZACPI_LAID_OUT(zacpi_dmar_flags, 4, 2);
+ZACPI_LAID_OUT(zacpi_hop, 2, 1);
+ZACPI_LAID_OUT(zacpi_dmar_unit, 24, 8);
+ZACPI_LAID_OUT(zacpi_dmar_scope, 48, 8);
+ZACPI_LAID_OUT(zacpi_dmar_source, 32, 8);
+ZACPI_LAID_OUT(zacpi_dmar_reserved, 24, 8);
+ZACPI_LAID_OUT(zacpi_dmar_root_ports, 4, 2);
+ZACPI_LAID_OUT(zacpi_dmar_affinity, 16, 8);
+ZACPI_LAID_OUT(zacpi_ivrs_unit, 32, 8);
+ZACPI_LAID_OUT(zacpi_ivrs_device, 40, 8);
+ZACPI_LAID_OUT(zacpi_ivrs_memory, 24, 8);
+ZACPI_LAID_OUT(zacpi_ivrs_entry, 72, 8);
+ZACPI_LAID_OUT(zacpi_table_ids, 28, 4);
+ZACPI_LAID_OUT(zacpi_madt_contents, 104, 8);
+ZACPI_LAID_OUT(zacpi_gic_contents, 88, 8);
+ZACPI_LAID_OUT(zacpi_riscv_contents, 64, 8);
+ZACPI_LAID_OUT(zacpi_rhct_contents, 48, 8);
+ZACPI_LAID_OUT(zacpi_apic_domain, 8, 4);
+ZACPI_LAID_OUT(zacpi_gicc_domain, 8, 4);
+ZACPI_LAID_OUT(zacpi_srat_contents, 48, 8);
+ZACPI_LAID_OUT(zacpi_spcr_contents, 64, 8);
+ZACPI_LAID_OUT(zacpi_platform_timer, 56, 8);
+ZACPI_LAID_OUT(zacpi_gtdt_contents, 80, 8);
+ZACPI_LAID_OUT(zacpi_facs_contents, 24, 8);
+ZACPI_LAID_OUT(zacpi_aml_contents, 24, 8);
+ZACPI_LAID_OUT(zacpi_listed_table, 16, 8);
+ZACPI_LAID_OUT(zacpi_machine, 80, 8);
 
 static inline struct zacpi_source zacpi_source_kept(const struct zacpi_source *given) {
     struct zacpi_source kept = *given;

@@ -78,8 +78,29 @@ void say_signature(const struct printer *p, const uint8_t letters[4]) {
         for (i = 0; i < 4; i++) say_hex(p, letters[i], 2);
 }
 
+static int begins_with(const char *text, const char *front) {
+    while (*front && *text == *front) text++, front++;
+    return !*front;
+}
+
+/* The words after ZACPI_ with a capital each; of the errors of a table's entries, after what says whose they are. */
+void say_error(const struct printer *p, zacpi_status status) {
+    const char *name = zacpi_status_name(status);
+    int is_first = 1;
+    if (begins_with(name, "ZACPI_")) name += 6;
+    else is_first = 0; /* Unknown */
+    if (begins_with(name, "MADT_")) say(p, "InvalidMadt "), name += 5;
+    if (begins_with(name, "NUMA_")) say(p, "InvalidSrat "), name += 5;
+    if (begins_with(name, "IOMMU_")) say(p, "InvalidIommu "), name += 6;
+    for (; *name; name++) {
+        const char letter = is_first || *name < 'A' || *name > 'Z' ? *name : (char)(*name - 'A' + 'a');
+        if (letter != '_') p->write(p->to, &letter, 1);
+        is_first = letter == '_';
+    }
+}
+
 static void say_status(const struct printer *p, zacpi_status status, const uint8_t letters[4]) {
-    say(p, zacpi_status_name(status));
+    say_error(p, status);
     if ((status >= ZACPI_SDT_INVALID_SIGNATURE && status <= ZACPI_TABLE_MISSING) || status == ZACPI_AML_INVALID) {
         say(p, " ");
         say_signature(p, letters);

@@ -17,6 +17,8 @@ void say(const struct printer *p, const char *text);
 void say_number(const struct printer *p, uint64_t number);
 void say_address(const struct printer *p, uint64_t address);
 void say_signature(const struct printer *p, const uint8_t letters[4]);
+/* An error by the name that acpi_view has for it: MapFailed for ZACPI_MAP_FAILED. */
+void say_error(const struct printer *p, zacpi_status status);
 /* `WHAT: ERROR` and a newline, by the names that acpi_view has for errors. */
 void say_refused(const struct printer *p, const char *what, zacpi_status status, const struct zacpi_signature *named);
 

@@ -12,7 +12,7 @@ static void begin(const struct printer *p, const char *signature, uint64_t addre
     p->write(p->to, signature, 4), say(p, " at "), say_address(p, address), say(p, ": ");
 }
 static void end(const struct printer *p, zacpi_status status, const char *more) {
-    say(p, zacpi_status_name(status)), say(p, more), say(p, "\n");
+    say_error(p, status), say(p, more), say(p, "\n");
 }
 
 /* Tables that a lookup skips, or takes though they have an error, if the list of tables hasn't that error already. */

@@ -102,7 +102,8 @@ void print_entries(const struct entry *entries, size_t count, const struct print
         p->write(p->to, (const char *)entries[i].letters, 4), say(p, " ");
         say_digits(p, entries[i].address, 16, digits), say(p, " ");
         say_digits(p, entries[i].length, 8, digits), say(p, " ");
-        say(p, entries[i].status ? zacpi_status_name(entries[i].status) : "ok");
+        if (entries[i].status) say_error(p, entries[i].status);
+        else say(p, "ok");
         say(p, is_private(entries + i) ? ", not saved: it has Windows' product key\n" : "\n");
     }
 }

@@ -1,7 +1,7 @@
 # SPDX-License-Identifier: MIT
 # Compares the numbers of errors, and fails if they differ: those of enum zacpi_status_code in include/zacpi.h with
-# those that acpi_c_lib's refusal/codes.rt gives out, and with the names that zacpi_status_name shows. These two files
-# are what it reads, in this order. Names are compared in the manner of Rust, those of the MADT's errors with `Madt`
+# those that acpi_c_lib's refusal/codes.rt gives out, and with the names that zacpi_status_name shows, which are the
+# header's. These two files are what it reads, in this order. The others are compared in the manner of Rust, those of the MADT's errors with `Madt`
 # before them, and those of the SRAT's and of the IOMMUs' without what says that they are.
 function complain(what) { print what; differ = 1 }
 function has(number, name) {
@@ -19,6 +19,7 @@ file == 1 && /^enum zacpi_status_code/ { inside = 1 }
 file == 1 && /^};/ { inside = 0 }
 file == 1 && inside && match($0, /^    ZACPI_[A-Z_]+ = [0-9]+/) {
     split(substr($0, 11, RLENGTH - 10), parts, " = ")
+    declared[parts[2]] = "ZACPI_" parts[1]
     count++
     sub(/^(NUMA|IOMMU)_/, "", parts[1])
     if (parts[2] != 0) has(parts[2], rust_name(parts[1]))
@@ -28,9 +29,8 @@ file == 1 && shown && /^}/ { shown = 0 }
 # The names that the header shows, each after its number.
 file == 1 && shown {
     text = $0
-    while (match(text, /"[0-9]+:[A-Za-z ]+/)) {
+    while (match(text, /"[0-9]+:[A-Z_]+/)) {
         split(substr(text, RSTART + 1, RLENGTH - 1), parts, ":")
-        sub(/^InvalidMadt /, "Madt", parts[2]); sub(/^Invalid(Srat|Iommu) /, "", parts[2])
         if (parts[1] in shown_name) complain("the header shows two names of " parts[1])
         shown_name[parts[1]] = parts[2]
         number++
@@ -47,7 +47,7 @@ file == 2 && match($0, /(Refusal|AcpiError|MadtError|WriterError)::[A-Za-z]+(\(_
 END {
     for (i = 1; i <= most; i++) {
         here = name_of[1, i]
-        if (here != shown_name[i]) complain(i ": the header has '" here "', and shows '" shown_name[i] "'")
+        if (declared[i] != shown_name[i]) complain(i ": the header has " declared[i] ", and shows " shown_name[i])
         if (here != name_of[2, i]) complain(i ": the header has '" here "', and codes.rt '" name_of[2, i] "'")
     }
     if (number != count) complain("the header shows " number " names of " count " numbers")

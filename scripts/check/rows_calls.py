@@ -7,7 +7,7 @@ short."""
 
 TYPES = ["fadt", "madt", "hpet", "mcfg", "bgrt", "spcr"]  # those of `each`
 KINDS = TYPES + ["wsmt", "gtdt", "srat", "slit", "dmar", "ivrs"]
-ALONE = ["search", "within", "bios_areas", "accepting"]  # calls over a memory that need no tables opened before
+ALONE = ["search", "within", "bios_areas", "accepting", "accepted"]  # calls over a memory that need no tables opened before
 LISTS = ["headers", "whole_headers", "members", "ssdts", "ranges", "faults", "all"]  # with the most that are asked for
 NONE, STEPS = "0xffff", [f"{step:#x}" for step in range(8)]  # no write and no flush is refused, or the one of a number
 

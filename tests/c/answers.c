@@ -35,7 +35,7 @@ static void print_tables(const struct zacpi_source *source) {
     LIST("tables", zacpi_table, zacpi_list_tables, ALL, "%llx %u %u " IDS "\n", (wide)it->address, it->length,
          it->revision, IDS_OF(it));
     LIST("members", zacpi_member, zacpi_list_members, ALL, "%llx %s %u %u %u " IDS "\n", (wide)it->table.address,
-         zacpi_status_name(it->status), it->has_header, it->table.length, it->table.revision, IDS_OF(&it->table));
+         name_of(it->status), it->has_header, it->table.length, it->table.revision, IDS_OF(&it->table));
     LIST("ranges", zacpi_range, zacpi_list_ranges, ALL, "%llx %llx\n", (wide)it->address, (wide)it->length);
     for (i = 0; i < sizeof looked_up / sizeof *looked_up; i++) {
         const struct zacpi_signature wanted = zacpi_signature_of(looked_up[i]);
@@ -45,7 +45,7 @@ static void print_tables(const struct zacpi_source *source) {
             ONE("nth", struct zacpi_table, zacpi_find_nth_table, (source, wanted, k, item, named), "%llx\n",
                 (wide)it->address);
         LIST("faults", zacpi_fault, zacpi_list_faults, (source, wanted, items, MOST, count, named), "%llx %s\n",
-             (wide)it->address, zacpi_status_name(it->status));
+             (wide)it->address, name_of(it->status));
     }
     ONE("aml", struct zacpi_aml_table, zacpi_get_dsdt, IT, "%u %llx\n", it->revision, (wide)it->table_address);
     LIST("ssdts", zacpi_aml_table, zacpi_list_ssdts, ALL, "%u %llx\n", it->revision, (wide)it->table_address);
@@ -73,14 +73,14 @@ static void print_entries(const struct zacpi_source *source, const char *letters
 
 static void print_register(const char *name, const struct zacpi_register *r) {
     if (!r->present) printf("%s none\n", name);
-    else if (r->present != 1) printf("%s: %s\n", name, zacpi_status_name(ZACPI_INVALID_GENERIC_ADDRESS));
+    else if (r->present != 1) printf("%s: %s\n", name, name_of(ZACPI_INVALID_GENERIC_ADDRESS));
     else
         printf("%s %llx %u %u %u %u\n", name, (wide)r->at.address, r->at.space, r->at.bit_width, r->at.bit_offset,
                r->at.access_size);
 }
 static void print_block(const char *name, const struct zacpi_gpe_block *b) {
     if (!b->present) printf("%s none\n", name);
-    else if (b->present != 1) printf("%s: %s\n", name, zacpi_status_name(ZACPI_INVALID_GENERIC_ADDRESS));
+    else if (b->present != 1) printf("%s: %s\n", name, name_of(ZACPI_INVALID_GENERIC_ADDRESS));
     else printf("%s %llx %u %u\n", name, (wide)b->address, b->space, b->byte_length);
 }
 
@@ -174,7 +174,7 @@ static void print_interrupts(const struct zacpi_source *source) {
     LIST("nmi_lines", zacpi_nmi_line, zacpi_list_nmi_lines, ALL, "%u %u %u %u %u\n", it->of_all, it->processor_uid,
          it->lint, it->polarity, it->trigger);
     LIST("madt_faults", zacpi_entry_fault, zacpi_list_madt_faults, ALL, "%llx %u %s\n", (wide)it->address,
-         it->entry_type, zacpi_status_name(it->status));
+         it->entry_type, name_of(it->status));
     ONE("local_apic", struct zacpi_local_apic, zacpi_get_local_apic, IT, "%llx %u\n", (wide)it->address,
         it->also_has_8259);
     ONE("mailbox", uint64_t, zacpi_get_mailbox_address, IT, "%llx\n", (wide)*it);
@@ -290,7 +290,7 @@ static void print_domains(const struct zacpi_source *source) {
 }
 
 /* A fault of a table of units, whose error the list's name tells the table of. */
-static const char *error_of(zacpi_status status) { return strchr(zacpi_status_name(status), ' ') + 1; }
+static const char *error_of(zacpi_status status) { return strchr(name_of(status), ' ') + 1; }
 
 static void print_dmar(const struct zacpi_source *source) {
     static const struct zacpi_hop paths[][2] = {{{0x1f, 2}, {0, 0}}, {{0, 0}, {3, 1}}, {{2, 0}, {0, 0}}};

@@ -3,13 +3,24 @@
 #define ANSWERS_PRINT_H
 #include "edges.h"
 #include "fields.h"
+#include "lines.h"
 #include "answers_fields.h"
 
 enum { MOST = 1024 }; /* items of a list that are printed */
 
+static inline void add(void *to, const char *bytes, size_t length) { strncat((char *)to, bytes, length); }
+/* The name that acpi_view has for a status. */
+static inline const char *name_of(zacpi_status status) {
+    static char name[64];
+    const struct printer printer = {add, name};
+    name[0] = 0;
+    say_error(&printer, status);
+    return name;
+}
+
 /* The name of an error. Of one of the SRAT, the GTDT or an IOMMU's table, the call says which table it is. */
 static inline const char *error_name(zacpi_status status) {
-    const char *error = zacpi_status_name(status);
+    const char *error = name_of(status);
     return status >= ZACPI_NUMA_INVALID_ENTRY_LENGTH && strchr(error, ' ') ? strchr(error, ' ') + 1 : error;
 }
 

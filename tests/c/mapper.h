@@ -6,6 +6,9 @@
 #include "edges.h"
 #include "zacpi_map.h"
 
+/* No byte of it is padding. */
+typedef char mapper_is_full[sizeof(struct zacpi_mapper) == 3 * sizeof(void *) + sizeof(size_t) ? 1 : -1];
+
 enum { PAGE = 4096, MOST = 4096 };
 
 /* The memory that there is, in ascending order, none of which touches. */

@@ -69,6 +69,10 @@ static void check_place(const struct place_row *row) {
  * I/O APIC, and one of a Type that nothing defines, of Type and Length alone. */
 static const uint8_t madt_whole[66] = {'A', 'P', 'I', 'C', 66, [9] = 0x06, [44] = 0, 8, 1, 2, 1, [52] = 1, 12,
                                        [64] = 0x80, 2};
+/* Two processors of a LoongArch machine, a CORE PIC each (ACPI 6.5, section 5.2.12): Version 1, ACPI Processor ID 1 and
+ * 2, Physical Processor ID 0 and 5, enabled. */
+static const uint8_t madt_loong[74] = {'A', 'P', 'I', 'C', 74, [9] = 0x4d, [44] = 0x11, 15, 1, 1, [55] = 1,
+                                       [59] = 0x11, 15, 1, 2, [66] = 5, [70] = 1};
 /* A Memory Affinity, and a Local APIC Affinity. */
 static const uint8_t srat_whole[104] = {'S', 'R', 'A', 'T', 104, [9] = 0x25, [48] = 1, 40, [88] = 0, 16};
 /* Type and Length have two bytes each: a DRHD of 16 bytes, an RMRR of 24, and one of Type 0x102 of four. */
@@ -109,13 +113,13 @@ static const uint8_t oem_lost[65] = {'O', 'E', 'M', '4', 66, [9] = 0xa9};
 #define TABLE(n) (0x10000u * ((n) + 1u)) /* where table N lies */
 #define LAID(n, table) {TABLE(n), table, sizeof table}
 enum { IN_APIC, IN_SRAT, IN_DMAR, IN_LONG, IN_SHORT, IN_HALF, IN_THREE, IN_ZEROS, IN_35, IN_OTHER, IN_SUM, IN_LOST,
-       IN_LPIT, IN_IORT, IN_HMAT, IN_CEDT, IN_FPDT, IN_SEVEN, IN_TURNED, NOWHERE };
+       IN_LPIT, IN_IORT, IN_HMAT, IN_CEDT, IN_FPDT, IN_SEVEN, IN_TURNED, IN_LOONG, NOWHERE };
 static const struct zacpi_region laid[] = {LAID(IN_APIC, madt_whole), LAID(IN_SRAT, srat_whole),
     LAID(IN_DMAR, dmar_whole), LAID(IN_LONG, madt_long), LAID(IN_SHORT, madt_short), LAID(IN_HALF, nfit_half),
     LAID(IN_THREE, oem_three), LAID(IN_ZEROS, oem_zeros), LAID(IN_35, oem_35), LAID(IN_OTHER, oem_other),
     LAID(IN_SUM, oem_sum), LAID(IN_LOST, oem_lost), LAID(IN_LPIT, lpit_whole),
     LAID(IN_IORT, iort_whole), LAID(IN_HMAT, hmat_whole), LAID(IN_CEDT, cedt_whole), LAID(IN_FPDT, fpdt_whole),
-    LAID(IN_SEVEN, oem_seven), LAID(IN_TURNED, oem_turned)};
+    LAID(IN_SEVEN, oem_seven), LAID(IN_TURNED, oem_turned), LAID(IN_LOONG, madt_loong)};
 
 /* 35 bytes of the first. */
 static const struct zacpi_region laid_35[] = {{TABLE(IN_APIC), madt_whole, 35}};
@@ -132,6 +136,9 @@ static const struct entries_row {
 } entry_rows[] = {
     {REGIONS(laid), 0, IN_APIC, ZACPI_WALK_APIC, ZACPI_OK, NULL, 3, 0,
      {TABLE(IN_APIC) + 44, 0, 8, TABLE(IN_APIC) + 52, 1, 12, TABLE(IN_APIC) + 64, 0x80, 2}},
+    {REGIONS(laid), 0, IN_LOONG, ZACPI_WALK_APIC, ZACPI_OK, NULL, 2, 0,
+     {TABLE(IN_LOONG) + 44, ZACPI_RAW_MADT_ENTRY_TYPE_CORE_PROGRAMMABLE_INTERRUPT_CONTROLLER_CORE_PIC, 15,
+      TABLE(IN_LOONG) + 59, 0x11, 15}},
     {REGIONS(laid), 0, IN_APIC, {52, 0, 1, 1, 1}, ZACPI_OK, NULL, 2, 0,
      {TABLE(IN_APIC) + 52, 1, 12, TABLE(IN_APIC) + 64, 0x80, 2}},
     {REGIONS(laid), 0, IN_APIC, {66, 0, 1, 1, 1}, ZACPI_OK, NULL, 0, 0, {0}}, /* the table's end */

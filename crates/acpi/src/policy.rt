@@ -33,10 +33,22 @@ impl Policy for Valid {
 /// Accepts tables that fail some checks, as a kernel does that wants to boot on bad firmware.
 #[derive(Clone, Copy, Debug)]
 pub struct Accept {
-    /// By bit 0 a table's sum may be any, by bit 1 both of its ids (section 5.2.6). Of an RSDP (section 5.2.5.3), by bit 2
-    /// the OEM id may be any, by bit 3 revision 1 is read as 0, and by bit 4 one of which only the first 20 bytes pass
-    /// their checks is read by these, as one of revision 0. No other bit counts.
+    /// Its constants, or-ed: `SUMS` and `IDS` of tables (section 5.2.6), the others of an RSDP (section 5.2.5.3). No
+    /// other bit counts.
     pub bits: u32,
+}
+
+impl Accept {
+    /// A table's sum may be any.
+    pub const SUMS: u32 = 1;
+    /// A table's ids may be any.
+    pub const IDS: u32 = 2;
+    /// An RSDP's OEM id may be any.
+    pub const RSDP_IDS: u32 = 4;
+    /// An RSDP of revision 1 is read as one of revision 0.
+    pub const RSDP_REVISION: u32 = 8;
+    /// So is one of which only the first 20 bytes pass their checks.
+    pub const RSDP_FIRST: u32 = 16;
 }
 
 impl Policy for Accept {

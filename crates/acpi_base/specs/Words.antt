@@ -329,4 +329,5 @@ pub use Rattle.acpi_bytes.specs.Words.{
   size_code,
   space_code,
   space_of,
+  with_own,
 }

@@ -98,6 +98,7 @@ pub use Rattle.acpi_bytes.specs.Table.{
   check_of,
   own_of,
   sdt_kind,
+  with_own,
 }
 pub use Rattle.acpi_bytes.specs.Text.{
   IsTextOf,

@@ -69,22 +69,25 @@ impl PhysicalRecord for Unsummed {
 impl AcpiTable for Numbered {
     ghost use Rattle.std.proofs.Common.{lit≤};
     ghost use Rattle.std.specs.Prelude.{refl};
-    ghost use Rattle.acpi_base.specs.Words.{◌>>=◌, check_table, field_of, kind};
+    ghost use Rattle.acpi_base.specs.Words.{field_of, sdt_kind, with_own};
     ghost use Rattle.acpi.specs.Types.{BGRT};
 
     const SIGNATURE: Signature = Signature::BGRT;
 
     ghost SIGNATURE = { BGRT };
 
-    ghost kind = { kind BGRT 37 (λ b. check_table BGRT b >>= λ _. holds (field_of b 36 1 == 1) InvalidGenericAddress) };
+    ghost kind = { with_own (λ b. holds (field_of b 36 1 == 1) InvalidGenericAddress) (sdt_kind BGRT 37) };
 
     fn header(&self) -> &SdtHeader {
         &self.header
     }
 
     fn validate(&self, bytes: &[u8]) -> AcpiResult<()> {
-        self.header.validate(Self::SIGNATURE, bytes)?;
-        check_number(self.number)
+        self.header.validate(Self::SIGNATURE, bytes)
+    }
+
+    fn check_own(bytes: &[u8]) -> AcpiResult<()> {
+        check_number(Self::read(bytes).number)
     }
 
     ghost least = { lit≤ tt };
@@ -110,6 +113,10 @@ impl AcpiTable for Unsummed {
 
     fn validate(&self, _bytes: &[u8]) -> AcpiResult<()> {
         check_number(self.number)
+    }
+
+    fn check_own(_bytes: &[u8]) -> AcpiResult<()> {
+        Ok(())
     }
 
     ghost least = { lit≤ tt };

@@ -90,7 +90,7 @@ impl Rsdp {
     ///
     /// # Panics
     ///
-    /// Panics if there are fewer than 36 bytes, or fewer than the length that this RSDP has.
+    /// Panics if there are fewer than 20 bytes, and signature and OEM id are valid.
     pub fn validate(&self, bytes: &[u8]) -> AcpiResult<()> {
         match self.summed_length(bytes, 0)? {
             None => Ok(()),

@@ -24,8 +24,8 @@ pub struct Source<'a> {
     pub address: u64,
     /// Start: one of `enum zacpi_start`.
     pub start: u32,
-    /// Accept: 0, or bits of `enum zacpi_accept`: a root table, a listed table or a DSDT with no other error is valid.
-    /// In an RSDP no error is accepted.
+    /// Accept: 0, or bits of `enum zacpi_accept`: an RSDP, a root table, a listed table or a DSDT with no other error
+    /// is valid.
     pub accept: u32,
 }
 

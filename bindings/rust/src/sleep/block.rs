@@ -46,10 +46,6 @@ pub struct Block {
 ///
 /// Fails with `PastEnd` if the AML ends there, and with `InvalidLength` if the length is less than its own bytes or
 /// goes past the end.
-///
-/// # Panics
-///
-/// Panics if `at` is past the end.
 pub fn block_at(aml: &[u8], at: usize) -> Result<Block, AmlError> {
     let lead = byte_at(aml, at)?;
     let start = at + 1 + lead as usize / 64;

@@ -81,10 +81,6 @@ fn carets(aml: &[u8], at: usize) -> usize {
 ///
 /// Fails with `PastEnd` if the AML ends before the name does, and with `InvalidName` if a character isn't one of a
 /// name's, or there are no segments after the prefix of several.
-///
-/// # Panics
-///
-/// Panics if `at` is past the end.
 pub fn name_at(aml: &[u8], at: usize) -> Result<Name, AmlError> {
     let ups = carets(aml, at);
     let root = if byte_at(aml, at)? == b'\\' { 1 } else { 0 };

@@ -17,10 +17,6 @@ pub struct Opcode {
 /// The opcode that begins at an offset, which is at most the length of the AML.
 ///
 /// Fails with `PastEnd` if the AML ends before the opcode does.
-///
-/// # Panics
-///
-/// Panics if `at` is past the end.
 pub fn opcode_at(aml: &[u8], at: usize) -> Result<Opcode, AmlError> {
     let first = byte_at(aml, at)?;
     if first == 0x5B {

@@ -66,10 +66,6 @@ fn part_end(part: Part, aml: &[u8], at: usize) -> Result<usize, AmlError> {
 /// Where the last of parts ends of which the first begins at an offset, which is at most the length of the AML.
 ///
 /// Fails with the error of the first part that doesn't end within the AML or isn't what it should be.
-///
-/// # Panics
-///
-/// Panics if `at` is past the end.
 pub fn parts_end(parts: &[Part], aml: &[u8], at: usize) -> Result<usize, AmlError> {
     let mut end = at;
     for part in parts {

@@ -65,7 +65,9 @@ fn is_refused_in(bytes: &[u8], offset: usize, accept: u32) -> bool
         return false;
     }
     let candidate = &front[..36];
-    Rsdp::read(candidate).summed_length(candidate, accept).is_err()
+    Rsdp::read(candidate)
+        .summed_length(candidate, accept)
+        .is_err()
 }
 
 /// The RSDP at an address, if it is valid, or else how many candidates from there on are invalid,

@@ -252,11 +252,7 @@ impl<'h, H: Lender, P: Policy> AcpiTables<'h, H, P> {
     }
 
     /// The tables below the root table that an accepted RSDP leads to, which is unmapped first.
-    fn open_read(
-        handler: &'h H,
-        rsdp: PhysicalMapping<'h, H, Rsdp>,
-        policy: P,
-    ) -> AcpiResult<Self>
+    fn open_read(handler: &'h H, rsdp: PhysicalMapping<'h, H, Rsdp>, policy: P) -> AcpiResult<Self>
         requires { Allows (H.may handler.now)
             (root_ranges_of (P.bits policy) (H.memory handler.now) (start_of rsdp, bytes_of rsdp)) }
         ensures handler { IfOk result (λ t. lender_of t ≡ handler.now) }

@@ -56,6 +56,7 @@ impl<'r, H: AcpiHandler> Scene<'r, H> {
             },
             "guarded" => guarded::numbers(out, self.handler),
             "accepting" => accepting::answer(out, self.handler, id_of(rest)),
+            "accepted" => accepting::opened(out, self.handler, rest),
             "close" => self.tables = None,
             "release" => self.release(number_of(rest) as usize),
             "show" => {

@@ -56,7 +56,8 @@ impl<'h, H: Lender, P: Policy> AcpiTables<'h, H, P> {
     ///
     /// # Panics
     ///
-    /// Panics if `least` is below 36.
+    /// Doesn't, but if `least` is below 36 it may find a table that is shorter than a header, for which `mapping`
+    /// panics.
     #[inline(never)]
     pub fn find_bytes(&self, signature: Signature, least: usize) -> AcpiResult<ValidTable<'h, H>> {
         for address in self.pointers() {

@@ -20,7 +20,8 @@ impl<'h, H: Lender, T: PhysicalRecord> PhysicalMapping<'h, H, T> {
     ///
     /// # Panics
     ///
-    /// Panics if `region_length` is above the number of bytes, or below `T::MIN_LENGTH`.
+    /// Panics if `region_length` is above the number of bytes, and may, as `T::read`, if it is below
+    /// `T::MIN_LENGTH`.
     pub fn new(physical_start: u64, bytes: &'h [u8], region_length: usize, handler: &'h H) -> Self {
         PhysicalMapping::of_claim(Claim::new(physical_start, bytes, region_length, handler))
     }
@@ -38,7 +39,7 @@ impl<'h, H: Lender, T: PhysicalRecord> PhysicalMapping<'h, H, T> {
     ///
     /// # Panics
     ///
-    /// Panics if `size` is below `T::MIN_LENGTH`.
+    /// May panic, as `T::read`, if `size` is below `T::MIN_LENGTH`.
     pub fn map(handler: &'h H, address: u64, size: usize) -> AcpiResult<Self> {
         let claim = Claim::request(handler, address, size)?;
         return Ok(PhysicalMapping::of_claim(claim));

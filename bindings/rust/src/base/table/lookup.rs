@@ -53,7 +53,7 @@ impl<'h, H: Lender> ValidTable<'h, H> {
     ///
     /// # Panics
     ///
-    /// Panics if the table is shorter than `T::MIN_LENGTH`.
+    /// May panic, as `T::read`, if the table is shorter than `T::MIN_LENGTH`.
     #[inline(always)]
     pub fn mapping<T: PhysicalRecord>(self) -> PhysicalMapping<'h, H, T> {
         let ValidTable { claim } = self;
@@ -185,7 +185,8 @@ fn claim_by<'h, H: Lender>(
 ///
 /// # Panics
 ///
-/// Panics if `least` is below 36.
+/// Doesn't, but if `least` is below 36 it may return a table that is shorter than a header, for which `mapping`
+/// panics.
 #[inline(always)]
 pub fn valid_by<'h, H: Lender>(
     handler: &'h H,

@@ -60,7 +60,7 @@ impl SratEntry {
     ///
     /// # Panics
     ///
-    /// Panics if the entry is shorter than one of its type.
+    /// Panics if there is no byte, and may if the entry is shorter than one of its type.
     pub fn read(revision: u8, entry: &[u8]) -> Option<SratEntry> {
         match entry[0] {
             0 => Some(SratEntry::LocalApic(local_apic_affinity_at(revision, entry))),
