@@ -188,7 +188,8 @@ is_ok_of (Ok y) x e = cc
 is_ok_of (Err d) x e = cc
 
 -- a definition over the pointers of tables, over a memory that agrees with theirs
-pub from_tables : {A : Type 0} {H P h p : _} (t : AcpiTables H P h p) (ranges_of : Memory → List ℕ → Ranges) (defined : Memory
+pub from_tables : {A : Type 0} {H P h p : _} (t : AcpiTables H P h p) (ranges_of : Memory → List ℕ → Ranges)
+    (defined : Memory
     → List ℕ → Result A AcpiError)
     → DependsOn ranges_of defined
     → result_ok (accepted_root_at (accept_of t) (memory_of t) (kind_of t) (root_address_of t)) ≡ Some (root_of t)
@@ -259,14 +260,17 @@ same_rsdp accept m n a h =
 
 -- ---- the search
 
-pub same_walk : (accept : ℕ) (m n : Memory) (c a : ℕ) → AgreesOn m n (walk_ranges accept m c a) → walk accept n c a ≡ walk accept m c a
+pub same_walk : (accept : ℕ) (m n : Memory) (c a : ℕ) → AgreesOn m n (walk_ranges accept m c a)
+    → walk accept n c a ≡ walk accept m c a
 same_walk accept m n zero a h = refl
 same_walk accept m n (suc c) a h =
     let front = same_rsdp accept m n a (each_front _ (accepted_rsdp_ranges accept m a) _ h) in
     let after = each_back _ (accepted_rsdp_ranges accept m a) _ h in
-    rw front (later_same m n (λ b. Some (a, b)) (accepted_rsdp_at accept m a) _ _ _ (same_walk accept m n c (a + 16)) after)
+    rw front (later_same m n (λ b. Some (a, b)) (accepted_rsdp_at accept m a) _ _ _
+    (same_walk accept m n c (a + 16)) after)
 
-same_area : (accept : ℕ) (m n : Memory) (s : Area) → AgreesOn m n (area_ranges accept m s) → found_in accept n s ≡ found_in accept m s
+same_area : (accept : ℕ) (m n : Memory) (s : Area) → AgreesOn m n (area_ranges accept m s)
+    → found_in accept n s ≡ found_in accept m s
 unfolding found_in
 same_area accept m n s h =
     rw (← h.0) (then_same m n (λ _. walk_ranges accept m (count_of s) s.start) _ _
@@ -282,17 +286,21 @@ same_areas accept m n word h =
     let s = second_area word in
     let front = same_area accept m n first_area (each_front _ (area_ranges accept m first_area) _ h) in
     rw front (then_same m n (λ first. or_else_ranges first (area_ranges accept m s)) _ _
-    (else_same m n (area_ranges accept m s) _ _ (λ last. rw (same_area accept m n s last) refl)) (found_in accept m first_area)
+    (else_same m n (area_ranges accept m s) _ _ (λ last. rw (same_area accept m n s last) refl))
+    (found_in accept m first_area)
     (each_back _ (area_ranges accept m first_area) _ h))
 
 same_word : (m n : Memory) → at m 0x40e 2 ≡ at n 0x40e 2 → word_in n ≡ word_in m
 unfolding word_in
 same_word m n h = rw (← h) refl
 
-pub same_search : (accept : ℕ) (m n : Memory) → AgreesOn m n (accepted_search_ranges accept m) → accepted_found_rsdp accept n ≡ accepted_found_rsdp accept m
+pub same_search : (accept : ℕ) (m n : Memory) → AgreesOn m n (accepted_search_ranges accept m)
+    → accepted_found_rsdp accept n ≡ accepted_found_rsdp accept m
 unfolding accepted_found_rsdp
-same_search accept m n h = rw (same_word m n h.0) (then_same m n (λ word. area_ranges accept m first_area ++ ranges.◌>>=◌
-    (found_in accept m first_area) (λ first. or_else_ranges first (area_ranges accept m (second_area word)))) _ _ (same_areas accept m n)
+same_search accept m n h = rw (same_word m n h.0) (then_same m n
+    (λ word. area_ranges accept m first_area ++ ranges.◌>>=◌
+    (found_in accept m first_area) (λ first. or_else_ranges first (area_ranges accept m (second_area word)))) _ _
+    (same_areas accept m n)
     (word_in m) h.1)
 
 -- ---- what is opened
@@ -357,7 +365,8 @@ same_among : (accept : ℕ) (m n : Memory) (areas : List AddressRange) → Agree
     → found_among accept n areas ≡ found_among accept m areas
 same_among accept m n [] h = refl
 same_among accept m n (s ∷ areas) h =
-    let front = same_walk accept m n (count_in s) (first_in s) (each_front _ (walk_ranges accept m (count_in s) (first_in s)) _ h) in
+    let front = same_walk accept m n (count_in s) (first_in s)
+    (each_front _ (walk_ranges accept m (count_in s) (first_in s)) _ h) in
     let after = each_back _ (walk_ranges accept m (count_in s) (first_in s)) _ h in
     rw front (same_later_areas accept m n areas (walk_in accept m s) (same_among accept m n areas) after)
 

@@ -16,7 +16,8 @@ err_is (Ok x) h = absurd cc
 err_is (Err e) h = (e, refl)
 
 -- the first checks refuse what is lent there
-first_refused : (accept : ℕ) (m : Memory) (a : ℕ) (b : List ℕ) (e : AcpiError) → lent m a 36 ≡ Ok b → accepted_length accept b ≡ Err e
+first_refused : (accept : ℕ) (m : Memory) (a : ℕ) (b : List ℕ) (e : AcpiError) → lent m a 36 ≡ Ok b
+    → accepted_length accept b ≡ Err e
     → IsRefused accept m a
 unfolding accepted_rsdp_at
 first_refused accept m a b e there refused = (e, rw (there, refused) refl)
@@ -30,7 +31,8 @@ shown_refused accept m a off b hm e h =
     grind (arith, nat_tests)) in
     let room : off + 36 ≤ length b = omega (arith, long, length-drop off b) in
     let why = err_is _ two.1 in
-    first_refused accept m (a + off) (part b off 36) why.0 (lent_part m a off 36 (length b) b hm e (omega arith) room) why.1
+    first_refused accept m (a + off) (part b off 36) why.0
+    (lent_part m a off 36 (length b) b hm e (omega arith) room) why.1
 
 -- ---- candidates that are passed over
 
@@ -39,12 +41,15 @@ pub unmapped_refused : (accept : ℕ) (m : Memory) (a : ℕ) (e : AcpiError) →
 unfolding accepted_rsdp_at
 unmapped_refused accept m a e none = (e, rw none refl)
 
-pub only_this : (accept : ℕ) (m : Memory) (a : ℕ) → IsRefused accept m a → (i : ℕ) → i < 1 → IsRefused accept m (a + 16 * i)
+pub only_this : (accept : ℕ) (m : Memory) (a : ℕ) → IsRefused accept m a → (i : ℕ) → i < 1
+    → IsRefused accept m (a + 16 * i)
 only_this accept m a h i less = moved accept m a (a + 16 * i) (omega (arith, less)) h
 
 -- one that is refused, and those after it that its loan shows to be
-pub front_refused : (accept : ℕ) (m : Memory) (a n : ℕ) (b : List ℕ) → IsMemory m → at m a (length b) ≡ Some b → IsRefused accept m a
-    → ((i : ℕ) → 0 < i → i < n → is_refused_in accept b (16 * i) ≡ true) → (i : ℕ) → i < n → IsRefused accept m (a + 16 * i)
+pub front_refused : (accept : ℕ) (m : Memory) (a n : ℕ) (b : List ℕ) → IsMemory m → at m a (length b) ≡ Some b
+    → IsRefused accept m a
+    → ((i : ℕ) → 0 < i → i < n → is_refused_in accept b (16 * i) ≡ true) → (i : ℕ) → i < n
+    → IsRefused accept m (a + 16 * i)
 front_refused accept m a n b hm e first rest zero less = moved accept m a (a + 16 * zero) (omega arith) first
 front_refused accept m a n b hm e first rest (suc i) less =
     shown_refused accept m a (16 * suc i) b hm (rw e refl) (rest (suc i) (omega arith) less)
@@ -59,15 +64,18 @@ before_other Yes No n (Some x) found i some less = found.3 i (omega arith) less
 module _ (accept : ℕ) (m : Memory) (n start : ℕ) where
   next_refused : (k r : ℕ) → ((i : ℕ) → i < suc r → IsRefused accept m (start + 16 * k + 16 * i)) → (i : ℕ) → i < r
       → IsRefused accept m (start + 16 * (k + 1) + 16 * i)
-  next_refused k r refused i less = moved accept m (start + 16 * k + 16 * suc i) (start + 16 * (k + 1) + 16 * i) (omega arith)
+  next_refused k r refused i less = moved accept m (start + 16 * k + 16 * suc i) (start + 16 * (k + 1) + 16 * i)
+      (omega arith)
       (refused (suc i) (omega (arith, less)))
 
   this_refused : (k r : ℕ) → ((i : ℕ) → i < suc r → IsRefused accept m (start + 16 * k + 16 * i))
       → IsRefused accept m (start + 16 * k)
-  this_refused k r refused = moved accept m (start + 16 * k + 16 * 0) (start + 16 * k) (omega arith) (refused 0 (omega arith))
+  this_refused k r refused = moved accept m (start + 16 * k + 16 * 0) (start + 16 * k) (omega arith)
+      (refused 0 (omega arith))
 
   pub walk_past_all : (all : Option (ℕ × List ℕ)) (k r : ℕ) → walk accept m (n - k) (start + 16 * k) ≡ all → k + r ≤ n
-      → ((i : ℕ) → i < r → IsRefused accept m (start + 16 * k + 16 * i)) → walk accept m (n - (k + r)) (start + 16 * (k + r)) ≡ all
+      → ((i : ℕ) → i < r → IsRefused accept m (start + 16 * k + 16 * i))
+      → walk accept m (n - (k + r)) (start + 16 * (k + r)) ≡ all
   walk_past_all all k zero so_far most refused =
       let same : k ≡ k + zero = omega arith in
       subst (λ (x : ℕ). walk accept m (n - x) (start + 16 * x) ≡ all) same so_far
@@ -79,7 +87,8 @@ module _ (accept : ℕ) (m : Memory) (n start : ℕ) where
       subst (λ (x : ℕ). walk accept m (n - x) (start + 16 * x) ≡ all) same
       (walk_past_all all (k + 1) r next (omega (arith, most)) (next_refused k r refused))
 
-  pub asked_past_all : (may : ℕ → ℕ → Bool) (k r : ℕ) → Allows may (walk_ranges accept m (n - k) (start + 16 * k)) → k + r ≤ n
+  pub asked_past_all : (may : ℕ → ℕ → Bool) (k r : ℕ) → Allows may (walk_ranges accept m (n - k) (start + 16 * k))
+      → k + r ≤ n
       → ((i : ℕ) → i < r → IsRefused accept m (start + 16 * k + 16 * i))
       → Allows may (walk_ranges accept m (n - (k + r)) (start + 16 * (k + r)))
   asked_past_all may k zero asked most refused =
@@ -103,7 +112,8 @@ area_in_turn accept may m areas i d less asked =
     let s = get_or areas i d in
     all_front may (walk_ranges accept m (count_in s) (first_in s)) _ (rw (drop_more areas i d less) at asked)
 
-pub found_in_turn : (accept : ℕ) (m : Memory) (areas : List AddressRange) (i : ℕ) (d : AddressRange) (top : Option (ℕ × List ℕ))
+pub found_in_turn : (accept : ℕ) (m : Memory) (areas : List AddressRange) (i : ℕ) (d : AddressRange)
+    (top : Option (ℕ × List ℕ))
     (found : ℕ × List ℕ) → i < length areas
     → found_among accept m (drop i areas) ≡ top → Some found ≡ walk_in accept m (get_or areas i d) → Some found ≡ top
 found_in_turn accept m areas i d top found less so_far here =
@@ -123,10 +133,12 @@ later_areas accept may m areas i d top less so_far asked none =
     let these : Allows may (walk_ranges accept m (count_in s) (first_in s)
     ++ or_else_ranges (walk_in accept m s) (areas_ranges accept m later)) = rw (drop_more areas i d less) at asked in
     let rest = all_back may (walk_ranges accept m (count_in s) (first_in s)) _ these in
-    let found : option_or (walk_in accept m s) (found_among accept m later) ≡ top = rw (drop_more areas i d less) at so_far in
+    let found : option_or (walk_in accept m s) (found_among accept m later)
+    ≡ top = rw (drop_more areas i d less) at so_far in
     (rw (← none) at found, rw (← none) at rest)
 
-pub no_area_left : (accept : ℕ) (m : Memory) (areas : List AddressRange) (i : ℕ) (top : Option (ℕ × List ℕ)) → length areas ≤ i
+pub no_area_left : (accept : ℕ) (m : Memory) (areas : List AddressRange) (i : ℕ) (top : Option (ℕ × List ℕ))
+    → length areas ≤ i
     → found_among accept m (drop i areas) ≡ top → None ≡ top
 no_area_left accept m areas i top over so_far = rw (drop_all i areas over) at so_far
 
@@ -147,7 +159,8 @@ asked_found_in may accept m areas found h there =
 -- what the candidates of one area come to
 abbrev InOne : ℕ → Memory → AddressRange → Option (ℕ × List ℕ) → Type 0
 InOne accept m s (Some found) =
-    IsCandidateIn s found.0 × (accepted_rsdp_at accept m found.0 ≡ Ok found.1) × ((a : ℕ) → a < found.0 → IsCandidateIn s a
+    IsCandidateIn s found.0 × (accepted_rsdp_at accept m found.0 ≡ Ok found.1)
+    × ((a : ℕ) → a < found.0 → IsCandidateIn s a
     → IsRefused accept m a)
 InOne accept m s None = NoneIn accept m s
 
@@ -182,14 +195,16 @@ index_of s a c =
     let high : 16 * c.0 + 20 ≤ end_of s = subst (λ (x : ℕ). x + 20 ≤ end_of s) c.1 c.3 in
     (c.0 - (s.address + 15) / 16, index_below s.address (end_of s) c.0 low high, c.1 ∙ index_at s.address c.0 low)
 
-walked : (accept : ℕ) (m : Memory) (s : AddressRange) (o : Option (ℕ × List ℕ)) → Says accept m (count_in s) (first_in s) o → InOne accept m s o
+walked : (accept : ℕ) (m : Memory) (s : AddressRange) (o : Option (ℕ × List ℕ))
+    → Says accept m (count_in s) (first_in s) o → InOne accept m s o
 walked accept m s (Some found) h = (
   of_index s h.0 found.0 h.1 h.2,
   h.3,
   λ a less c. let at = index_of s a c in moved accept m (first_in s + 16 * at.0) a (sym at.2)
       (h.4 at.0 (omega (arith, less, h.2, at.2))),
 )
-walked accept m s None h = λ a c. let at = index_of s a c in moved accept m (first_in s + 16 * at.0) a (sym at.2) (h at.0 at.1)
+walked accept m s None h = λ a c. let at = index_of s a c in moved accept m (first_in s + 16 * at.0) a (sym at.2)
+    (h at.0 at.1)
 
 in_one : (accept : ℕ) (m : Memory) (s : AddressRange) → InOne accept m s (walk_in accept m s)
 in_one accept m s = walked accept m s (walk_in accept m s) (walk_says accept m (count_in s) (first_in s))
@@ -198,7 +213,8 @@ abbrev IsAmong : ℕ → Memory → List AddressRange → Option (ℕ × List �
 IsAmong accept m areas (Some found) = IsFirstIn accept m areas found
 IsAmong accept m areas None = AllByRecursion (NoneIn accept m) areas
 
-one_more : (accept : ℕ) (m : Memory) (s : AddressRange) (areas : List AddressRange) (o later : Option (ℕ × List ℕ)) → InOne accept m s o
+one_more : (accept : ℕ) (m : Memory) (s : AddressRange) (areas : List AddressRange) (o later : Option (ℕ × List ℕ))
+    → InOne accept m s o
     → IsAmong accept m areas later → IsAmong accept m (s ∷ areas) (option_or o later)
 one_more accept m s areas (Some found) later here more = record {
   before = [];
@@ -224,7 +240,8 @@ one_more accept m s areas None None here more = (here, more)
 
 among : (accept : ℕ) (m : Memory) (areas : List AddressRange) → IsAmong accept m areas (found_among accept m areas)
 among accept m [] = tt
-among accept m (s ∷ areas) = one_more accept m s areas (walk_in accept m s) (found_among accept m areas) (in_one accept m s) (among accept m areas)
+among accept m (s ∷ areas) = one_more accept m s areas (walk_in accept m s) (found_among accept m areas)
+    (in_one accept m s) (among accept m areas)
 
 abbrev Searched : ℕ → Memory → List AddressRange → Result (ℕ × List ℕ) AcpiError → Type 0
 Searched accept m areas r = IsSearchedIn accept m areas (λ found. found) r
@@ -234,17 +251,20 @@ or_refused : (accept : ℕ) (m : Memory) (areas : List AddressRange) (o : Option
 or_refused accept m areas (Some found) h = h
 or_refused accept m areas None h = (refl, h)
 
-found_is_first : (accept : ℕ) (m : Memory) (areas : List AddressRange) → Searched accept m areas (accepted_in_areas accept m areas)
+found_is_first : (accept : ℕ) (m : Memory) (areas : List AddressRange)
+    → Searched accept m areas (accepted_in_areas accept m areas)
 unfolding accepted_in_areas
 found_is_first accept m areas = or_refused accept m areas (found_among accept m areas) (among accept m areas)
 
 -- what answers as `accepted_in_areas` has found the first valid candidate, or there is none
-pub searched_in : (accept : ℕ) {X : Type 0} (m : Memory) (areas : List AddressRange) (view : X → ℕ × List ℕ) (r : Result X AcpiError)
+pub searched_in : (accept : ℕ) {X : Type 0} (m : Memory) (areas : List AddressRange) (view : X → ℕ × List ℕ)
+    (r : Result X AcpiError)
     → Gives view r (accepted_in_areas accept m areas) → IsSearchedIn accept m areas view r
 searched_in accept m areas view (Ok x) same = rw same at (found_is_first accept m areas)
 searched_in accept m areas view (Err e) same = rw same at (found_is_first accept m areas)
 
-valid_in : (accept : ℕ) {X : Type 0} (m : Memory) (areas : List AddressRange) (view : X → ℕ × List ℕ) (r : Result X AcpiError)
+valid_in : (accept : ℕ) {X : Type 0} (m : Memory) (areas : List AddressRange) (view : X → ℕ × List ℕ)
+    (r : Result X AcpiError)
     → IsSearchedIn accept m areas view r → IfOk r (λ x. IsOk (accepted_rsdp_at accept m (view x).0))
 valid_in accept m areas view (Ok x) f = rw f.valid refl
 valid_in accept m areas view (Err e) h = tt

@@ -152,12 +152,14 @@ module _ (may : ℕ → ℕ → Bool) where
       → Allows may (walk_ranges accept m (count_of s) s.start)
   asked_walk accept m s b h there = rw there at (all_rest may (s.start, room_of s) _ h)
 
-  pub asked_first_area : (accept : ℕ) (m : Memory) (w : ℕ) → Allows may (accepted_search_ranges accept m) → word_in m ≡ Ok w
+  pub asked_first_area : (accept : ℕ) (m : Memory) (w : ℕ) → Allows may (accepted_search_ranges accept m)
+      → word_in m ≡ Ok w
       → Allows may (area_ranges accept m first_area)
   asked_first_area accept m w h word =
       all_front may (area_ranges accept m first_area) _ (behind (word_in m) _ w word (all_rest may (0x40e, 2) _ h))
 
-  pub asked_second_area : (accept : ℕ) (m : Memory) (w : ℕ) → Allows may (accepted_search_ranges accept m) → word_in m ≡ Ok w
+  pub asked_second_area : (accept : ℕ) (m : Memory) (w : ℕ) → Allows may (accepted_search_ranges accept m)
+      → word_in m ≡ Ok w
       → found_in accept m first_area ≡ Ok None
       → Allows may (area_ranges accept m (second_area w))
   asked_second_area accept m w h word none =
@@ -165,17 +167,21 @@ module _ (may : ℕ → ℕ → Bool) where
       (all_back may (area_ranges accept m first_area) _ (behind (word_in m) _ w word (all_rest may (0x40e, 2) _ h)))
 
   of_pred : (accept : ℕ) (n n' : ℕ) (m : Memory) (a : ℕ) → n ≡ n'
-      → Allows may (accepted_rsdp_ranges accept m a ++ unless_found (accepted_rsdp_at accept m a) (walk_ranges accept m n (a + 16)))
-      → Allows may (accepted_rsdp_ranges accept m a ++ unless_found (accepted_rsdp_at accept m a) (walk_ranges accept m n' (a + 16)))
+      → Allows may (accepted_rsdp_ranges accept m a ++ unless_found (accepted_rsdp_at accept m a)
+      (walk_ranges accept m n (a + 16)))
+      → Allows may (accepted_rsdp_ranges accept m a ++ unless_found (accepted_rsdp_at accept m a)
+      (walk_ranges accept m n' (a + 16)))
   of_pred accept n n' m a same h = subst (λ x. Allows may (accepted_rsdp_ranges accept m a
       ++ unless_found (accepted_rsdp_at accept m a) (walk_ranges accept m x (a + 16)))) same h
 
   asked_step : (accept : ℕ) (m : Memory) (n a : ℕ) → 0 < n → Allows may (walk_ranges accept m n a)
-      → Allows may (accepted_rsdp_ranges accept m a ++ unless_found (accepted_rsdp_at accept m a) (walk_ranges accept m (n - 1) (a + 16)))
+      → Allows may (accepted_rsdp_ranges accept m a ++ unless_found (accepted_rsdp_at accept m a)
+      (walk_ranges accept m (n - 1) (a + 16)))
   asked_step accept m zero a some h = absurd (omega arith)
   asked_step accept m (suc n) a some h = of_pred accept n (suc n - 1) m a (omega arith) h
 
-  pub asked_candidate : (accept : ℕ) (m : Memory) (n k start : ℕ) → k < n → Allows may (walk_ranges accept m (n - k) (start + 16 * k))
+  pub asked_candidate : (accept : ℕ) (m : Memory) (n k start : ℕ) → k < n
+      → Allows may (walk_ranges accept m (n - k) (start + 16 * k))
       → Allows may (accepted_rsdp_ranges accept m (start + 16 * k))
   asked_candidate accept m n k start turn h = all_front may (accepted_rsdp_ranges accept m (start + 16 * k)) _
       (asked_step accept m (n - k) (start + 16 * k) (omega arith) h)
@@ -195,7 +201,8 @@ module _ (may : ℕ → ℕ → Bool) where
   asked_next accept m n k start e turn h refused =
       let rest = all_back may (accepted_rsdp_ranges accept m (start + 16 * k)) _
       (asked_step accept m (n - k) (start + 16 * k) (omega arith) h) in
-      moved_walk accept m (n - k - 1) (n - (k + 1)) (start + 16 * k + 16) (start + 16 * (k + 1)) (omega arith) (omega arith)
+      moved_walk accept m (n - k - 1) (n - (k + 1)) (start + 16 * k + 16) (start + 16 * (k + 1)) (omega arith)
+      (omega arith)
       (after_refused m _ e _ refused rest)
 
 -- a call below a root table that was opened

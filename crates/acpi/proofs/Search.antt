@@ -49,7 +49,8 @@ lent_part m a off n size b hm e some room =
     rw ((lent_is_inside m (a + off) n (part b off n) hm some).1 (region.0, region.1, range)) refl
 
 -- without the signature no RSDP is there
-pub unsigned_refused : (accept : ℕ) (m : Memory) (a off size : ℕ) (b : List ℕ) → IsMemory m → lent m a size ≡ Ok b → off + 36 ≤ size
+pub unsigned_refused : (accept : ℕ) (m : Memory) (a off size : ℕ) (b : List ℕ) → IsMemory m → lent m a size ≡ Ok b
+    → off + 36 ≤ size
     → bytes_eq (part b off 8) rsd_ptr ≡ false → accepted_rsdp_at accept m (a + off) ≡ Err RsdpIncorrectSignature
 unfolding accepted_rsdp_at accepted_length check_first rsdp_of
 unsigned_refused accept m a off size b hm e room other =
@@ -69,13 +70,15 @@ not_begun P n a h =
     let start : a + 16 * 0 ≡ a = omega arith in
     rw (all, start) h
 
-walk_step : (accept : ℕ) (m : Memory) (n a : ℕ) → 0 < n → walk accept m n a ≡ or_later (there a) (accepted_rsdp_at accept m a) (walk accept m (n - 1) (a + 16))
+walk_step : (accept : ℕ) (m : Memory) (n a : ℕ) → 0 < n
+    → walk accept m n a ≡ or_later (there a) (accepted_rsdp_at accept m a) (walk accept m (n - 1) (a + 16))
 walk_step accept m zero a some = absurd (omega arith)
 walk_step accept m (suc n) a some =
     let less : suc n - 1 ≡ n = omega arith in
     rw less refl
 
-module _ (accept : ℕ) (m : Memory) (n k start : ℕ) (all : Option (ℕ × List ℕ)) (so_far : walk accept m (n - k) (start + 16 * k) ≡ all)
+module _ (accept : ℕ) (m : Memory) (n k start : ℕ) (all : Option (ℕ × List ℕ))
+    (so_far : walk accept m (n - k) (start + 16 * k) ≡ all)
     (turn : k < n) where
   turned : or_later (there (start + 16 * k)) (accepted_rsdp_at accept m (start + 16 * k))
       (walk accept m (n - (k + 1)) (start + 16 * (k + 1))) ≡ all
@@ -111,17 +114,21 @@ Says accept m n a None = (i : ℕ) → i < n → IsRefused accept m (a + 16 * i)
 pub moved : (accept : ℕ) (m : Memory) (a b : ℕ) → a ≡ b → IsRefused accept m a → IsRefused accept m b
 moved accept m a b e h = subst (λ (x : ℕ). IsRefused accept m x) e h
 
-refused_more : (accept : ℕ) (m : Memory) (a k : ℕ) → IsRefused accept m a → ((i : ℕ) → i < k → IsRefused accept m (a + 16 + 16 * i)) → (i : ℕ)
+refused_more : (accept : ℕ) (m : Memory) (a k : ℕ) → IsRefused accept m a
+    → ((i : ℕ) → i < k → IsRefused accept m (a + 16 + 16 * i)) → (i : ℕ)
     → i < suc k → IsRefused accept m (a + 16 * i)
 refused_more accept m a k first rest zero less = moved accept m a _ (omega arith) first
-refused_more accept m a k first rest (suc i) less = moved accept m (a + 16 + 16 * i) _ (omega arith) (rest i (omega arith))
+refused_more accept m a k first rest (suc i) less = moved accept m (a + 16 + 16 * i) _ (omega arith)
+    (rest i (omega arith))
 
-one_more : (accept : ℕ) (m : Memory) (n a : ℕ) (o : Option (ℕ × List ℕ)) → IsRefused accept m a → Says accept m n (a + 16) o → Says accept m (suc n) a o
+one_more : (accept : ℕ) (m : Memory) (n a : ℕ) (o : Option (ℕ × List ℕ)) → IsRefused accept m a
+    → Says accept m n (a + 16) o → Says accept m (suc n) a o
 one_more accept m n a (Some found) first h =
     (suc h.0, omega (arith, h.1), h.2 ∙ omega arith, h.3, refused_more accept m a h.0 first h.4)
 one_more accept m n a None first h = refused_more accept m a n first h
 
-walk_one : (accept : ℕ) (m : Memory) (n a : ℕ) (r : Result (List ℕ) AcpiError) (later : Option (ℕ × List ℕ)) → accepted_rsdp_at accept m a ≡ r
+walk_one : (accept : ℕ) (m : Memory) (n a : ℕ) (r : Result (List ℕ) AcpiError) (later : Option (ℕ × List ℕ))
+    → accepted_rsdp_at accept m a ≡ r
     → Says accept m n (a + 16) later → Says accept m (suc n) a (or_later (there a) r later)
 walk_one accept m n a (Ok b) later e h =
     (0, omega arith, omega arith, e, λ i less. absurd (omega (arith, less)))
@@ -129,7 +136,8 @@ walk_one accept m n a (Err x) later e h = one_more accept m n a later (x, e) h
 
 pub walk_says : (accept : ℕ) (m : Memory) (n a : ℕ) → Says accept m n a (walk accept m n a)
 walk_says accept m zero a = λ i less. absurd (omega (arith, less))
-walk_says accept m (suc n) a = walk_one accept m n a (accepted_rsdp_at accept m a) (walk accept m n (a + 16)) refl (walk_says accept m n (a + 16))
+walk_says accept m (suc n) a = walk_one accept m n a (accepted_rsdp_at accept m a) (walk accept m n (a + 16)) refl
+    (walk_says accept m n (a + 16))
 
 count_fits : (s : Area) (k : ℕ) → k < count_of s → s.start + 16 * k + 20 ≤ s.end
 count_fits s k h = omega arith
@@ -143,7 +151,8 @@ InArea accept m s (Ok (Some found)) = IsLeast accept m s found
 InArea accept m s (Ok None) = HasNone accept m s
 InArea accept m s (Err e) = (e ≡ MapFailed) × (at m s.start (room_of s) ≡ None)
 
-walked : (accept : ℕ) (m : Memory) (s : Area) (o : Option (ℕ × List ℕ)) → IsLent m s → Says accept m (count_of s) s.start o
+walked : (accept : ℕ) (m : Memory) (s : Area) (o : Option (ℕ × List ℕ)) → IsLent m s
+    → Says accept m (count_of s) s.start o
     → InArea accept m s (Ok o)
 walked accept m s (Some found) there h =
     let fits = count_fits s h.0 h.1 in
@@ -191,7 +200,8 @@ module _ (accept : ℕ) (m : Memory) (word : ℕ) (is : IsWord m (Ok word)) wher
   is_second : IsSecond m (second_area word)
   is_second = (is.0, is.1, ap second_area is.2)
 
-  in_second : HasNone accept m first_area → (r : Result (Option (ℕ × List ℕ)) AcpiError) → InArea accept m (second_area word) r
+  in_second : HasNone accept m first_area → (r : Result (Option (ℕ × List ℕ)) AcpiError)
+      → InArea accept m (second_area word) r
       → Searched accept m (r >>= λ found. or_else found (Err NoValidRsdp))
   in_second none (Ok (Some found)) least = (second_area word, is_second, inr (none, least))
   in_second none (Ok None) missing = inr (refl, (second_area word, is_second, none, missing))
@@ -215,7 +225,8 @@ unfolding accepted_found_rsdp
 found_is_searched accept m = from_word accept m _ (is_word m)
 
 -- what answers as `accepted_found_rsdp` has found the least valid candidate, or there is none
-pub searched : (accept : ℕ) {X : Type 0} (m : Memory) (view : X → ℕ × List ℕ) (r : Result X AcpiError) → Gives view r (accepted_found_rsdp accept m)
+pub searched : (accept : ℕ) {X : Type 0} (m : Memory) (view : X → ℕ × List ℕ) (r : Result X AcpiError)
+    → Gives view r (accepted_found_rsdp accept m)
     → IsSearched accept m view r
 searched accept m view (Ok x) same = rw same at (found_is_searched accept m)
 searched accept m view (Err e) same = rw same at (found_is_searched accept m)
@@ -234,17 +245,20 @@ value_lent accept m a b e =
     let summed = bind_ok (check_whole (lent m a) length.0) _ b length.2 in
     head.1 ∙ summed.2
 
-pub valid_lent : (accept : ℕ) (m : Memory) (a : ℕ) → IsOk (accepted_rsdp_at accept m a) → accepted_rsdp_at accept m a ≡ lent m a 36
+pub valid_lent : (accept : ℕ) (m : Memory) (a : ℕ) → IsOk (accepted_rsdp_at accept m a)
+    → accepted_rsdp_at accept m a ≡ lent m a 36
 valid_lent accept m a ok =
     let b = is_value (accepted_rsdp_at accept m a) ok in
     b.1 ∙ sym (value_lent accept m a b.0 b.1)
 
 -- what a search finds is valid
 
-is_valid : (accept : ℕ) (m : Memory) (found : ℕ × List ℕ) → IsFound accept m found → IsOk (accepted_rsdp_at accept m found.0)
+is_valid : (accept : ℕ) (m : Memory) (found : ℕ × List ℕ) → IsFound accept m found
+    → IsOk (accepted_rsdp_at accept m found.0)
 is_valid accept m found f = elim f.2 [ inl first ↦ rw first.valid refl | inr second ↦ rw second.1.valid refl ]
 
-of_searched : (accept : ℕ) {X : Type 0} (m : Memory) (view : X → ℕ × List ℕ) (r : Result X AcpiError) → IsSearched accept m view r
+of_searched : (accept : ℕ) {X : Type 0} (m : Memory) (view : X → ℕ × List ℕ) (r : Result X AcpiError)
+    → IsSearched accept m view r
     → IfOk r (λ x. IsOk (accepted_rsdp_at accept m (view x).0))
 of_searched accept m view (Ok x) h = is_valid accept m (view x) h
 of_searched accept m view (Err e) h = tt

@@ -95,8 +95,8 @@ check_rsdp b = do
   n ← checked_length b
   check_whole (at_hand b) n
 
--- the 36 bytes at an address of an RSDP that the bits of `accept` accept, or the error of the first check that fails. In
--- order: 36 bytes are mapped, what `accepted_length` checks, as many bytes as Length are mapped, and they sum to 0
+-- the 36 bytes at an address of an RSDP that the bits of `accept` accept, or the error of the first check that fails.
+-- In order: 36 bytes are mapped, what `accepted_length` checks, as many bytes as Length are mapped, and they sum to 0
 unfoldable pub accepted_rsdp_at : ℕ → Memory → ℕ → Result (List ℕ) AcpiError
 accepted_rsdp_at accept m a = do
   b ← lent m a 36

@@ -5,8 +5,8 @@ ghost use Rattle.acpi_base.specs.Words.{Allows, Gives, IsOfMemory, accepted, byt
 use acpi_base::table::accepted_at;
 use acpi_base::{AcpiResult, AcpiTable, Lender, PhysicalMapping};
 
-/// Which checks of tables and of the RSDP a caller gives up. Each table that is valid is accepted, and each that fails no
-/// other check: a policy only ever accepts more. What only one type of table has to pass (`AcpiTable::check_own`) is
+/// Which checks of tables and of the RSDP a caller gives up. Each table that is valid is accepted, and each that fails
+/// no other check: a policy only ever accepts more. What only one type of table has to pass (`AcpiTable::check_own`) is
 /// never given up.
 pub trait Policy: Copy {
     // The bits of `Accept`.

@@ -109,7 +109,8 @@ strict_length m s least p table enough claimed = length_there m (sdt_kind s leas
 pub accepted_last : (accept : ℕ) (m : Memory) (k : Kind) (s : Signature) (least p : ℕ) → k.signature ≡ s
     → k.least ≡ least → k.names ≡ check_names s
     → table_at m (accepted accept k) p
-    ≡ (table_at m (unchecked (accepted accept (sdt_kind s least))) p >>= λ t. check_of (accepted accept k) t >>= λ _. Ok t)
+    ≡ (table_at m (unchecked (accepted accept (sdt_kind s least))) p >>= λ t. check_of
+    (accepted accept k) t >>= λ _. Ok t)
 accepted_last accept m k s least p signature fits names =
     subst (λ u. table_at m (accepted accept k) p
     ≡ (table_at m u p >>= λ t. check_of (accepted accept k) t >>= λ _. Ok t))

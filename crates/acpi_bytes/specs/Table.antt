@@ -6,8 +6,8 @@ use Rattle.acpi_bytes.specs.Memory.{Memory}
 use Rattle.acpi_bytes.specs.Steps.{◌>>=◌, holds, lent}
 
 -- what a type of tables checks: the signature, the least length, the header (`names`), the table's bytes (`check`), and
--- then, if it has a check of its own, the bytes by that. A table type `T` has its own kind, `T.kind`: its two constants,
--- and the meaning of its `validate` and its `check_own`
+-- then, if it has a check of its own, the bytes by that. A table type `T` has its own kind, `T.kind`: its two
+-- constants, and the meaning of its `validate` and its `check_own`
 pub record Kind : Type 0 where
   pub signature : Signature
   pub least : ℕ

@@ -20,7 +20,14 @@ generic_record a = record {
 }
 
 abbrev pub no_register : records.GenericAddress
-no_register = record { address = 0; space = 0; bit_width = 0; bit_offset = 0; access_size = 0; reserved = replicate 4 0 }
+no_register = record {
+  address = 0;
+  space = 0;
+  bit_width = 0;
+  bit_offset = 0;
+  access_size = 0;
+  reserved = replicate 4 0;
+}
 
 -- a register; or zeros, and 0 if there is none or 2 if its address is an error
 abbrev pub optional_register : Result (Option GenericAddress) AcpiError → Register

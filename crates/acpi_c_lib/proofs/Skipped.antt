@@ -75,6 +75,7 @@ rsdp_ends_ranges accept m zero (suc more) a inside all is =
 rsdp_ends_ranges accept m (suc n) (suc more) a inside all is =
     let there : a + 16 * suc n ≡ a + 16 + 16 * n = omega arith in
     later_is (λ b. []) (accepted_rsdp_at accept m a) _ (All-head (IsNoRsdp accept m) a (candidates_from n (a + 16)) all)
-    ∙ ap (cons_option (candidate_missing_range accept m a)) (rsdp_ends_ranges accept m n more (a + 16) (omega (arith, inside))
+    ∙ ap (cons_option (candidate_missing_range accept m a))
+    (rsdp_ends_ranges accept m n more (a + 16) (omega (arith, inside))
     (All-tail (IsNoRsdp accept m) a (candidates_from n (a + 16)) all)
     (subst (λ b. is_ok (accepted_rsdp_at accept m b) ≡ true) there is))

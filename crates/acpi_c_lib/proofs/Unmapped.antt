@@ -30,7 +30,8 @@ pub rsdp_not : (accept : ℕ) (b : List ℕ) → accepted_length accept b ≡ Er
 unfolding accepted_length check_first
 rsdp_not accept b e = grind (arith, sum_not)
 
-pub rsdp_length : (accept : ℕ) (b : List ℕ) (n : ℕ) → accepted_length accept b ≡ Ok (Some n) → extended_length_of (rsdp_of b) ≡ Some n
+pub rsdp_length : (accept : ℕ) (b : List ℕ) (n : ℕ) → accepted_length accept b ≡ Ok (Some n)
+    → extended_length_of (rsdp_of b) ≡ Some n
 unfolding accepted_length
 rsdp_length accept b n e = grind arith
 
@@ -114,7 +115,8 @@ search_by accept m ok s t (Err d) first is e = grind arith
 
 search_last : (accept : ℕ) (m : Memory) (ok : Bool) → is_ok (lent m first_area.start (room_of first_area)) ≡ ok
     → accepted_found_rsdp accept m ≡ Err MapFailed
-    → let r = refused_at ok (lent m 0x40e 2) in (last_or None (accepted_search_ranges accept m) ≡ Some r) × (at m r.0 r.1 ≡ None)
+    → let r = refused_at ok (lent m 0x40e 2) in (last_or None (accepted_search_ranges accept m) ≡ Some r)
+    × (at m r.0 r.1 ≡ None)
 unfolding accepted_found_rsdp word_in
 search_last accept m ok first e = search_by accept m ok first_area second_area (lent m 0x40e 2) first refl e
 
@@ -125,14 +127,16 @@ search_refused accept m ok o x first is place e =
     ap (option_map range_of) (search_last accept m ok first e).0 ∙ ap (λ q. Some (range_of (refused_at ok q))) is
     ∙ sym (ap (λ y. Some y) place)
 
-search_unmapped : (accept : ℕ) (m : Memory) → accepted_found_rsdp accept m ≡ Err MapFailed → IsUnmapped m (last_range (accepted_search_ranges accept m))
+search_unmapped : (accept : ℕ) (m : Memory) → accepted_found_rsdp accept m ≡ Err MapFailed
+    → IsUnmapped m (last_range (accepted_search_ranges accept m))
 search_unmapped accept m e =
     let last = search_last accept m (is_ok (lent m first_area.start (room_of first_area))) refl e in
     subst (λ o. IsUnmapped m (option_map range_of o)) (sym last.0) last.1
 
 -- ---- opening
 
-rsdp_unmapped : (accept : ℕ) (m : Memory) (a : ℕ) → accepted_rsdp_at accept m a ≡ Err MapFailed → IsUnmapped m (last_range (accepted_rsdp_ranges accept m a))
+rsdp_unmapped : (accept : ℕ) (m : Memory) (a : ℕ) → accepted_rsdp_at accept m a ≡ Err MapFailed
+    → IsUnmapped m (last_range (accepted_rsdp_ranges accept m a))
 unfolding accepted_rsdp_at
 rsdp_unmapped accept m a e = grind (arith, sum_not, rsdp_not)
 
@@ -226,7 +230,8 @@ root_read m s place (Err d) e is = cc
 rsdp_read : (m : Memory) (s : Source) (r : Result (ℕ × List ℕ) AcpiError) (e : Refusal)
     → missing_in m s (opened_by m s (result_map (accepted_root s.accept m) (refused_as r))) ≡ Err e → ⊥
 rsdp_read m s (Ok found) e is =
-    root_read m s (accepted_root s.accept m found) (accepted_root_at s.accept m (accepted_root s.accept m found).kind (accepted_root s.accept m
+    root_read m s (accepted_root s.accept m found) (accepted_root_at s.accept m (accepted_root s.accept m found).kind
+    (accepted_root s.accept m
     found).address) e is
 rsdp_read m s (Err d) e is = cc
 
@@ -296,7 +301,8 @@ same_signature s k h = signature_is s k.0 ((bytes_eq-Decides s.0 k.0).0 h)
 
 -- ---- one candidate
 
-long_ranges : (accept : ℕ) (m : Memory) (a : ℕ) (b : List ℕ) → lent m a 36 ≡ Ok b → accepted_rsdp_at accept m a ≡ Err MapFailed
+long_ranges : (accept : ℕ) (m : Memory) (a : ℕ) (b : List ℕ) → lent m a 36 ≡ Ok b
+    → accepted_rsdp_at accept m a ≡ Err MapFailed
     → drop 1 (accepted_rsdp_ranges accept m a) ≡ length_ranges a (extended_length_of (rsdp_of b))
 unfolding accepted_rsdp_at
 long_ranges accept m a b is refused = grind (arith, rsdp_not, rsdp_length, sum_not)
@@ -351,11 +357,14 @@ few_missing_ranges None = omega arith
 -- what is written and what is left are the whole, and those that are left have a valid one if all have
 abbrev pub Walked : ℕ → Memory → ℕ → ℕ → List Range → ℕ → List Range → ℕ → Bool → Type 0
 Walked accept m left a new next all count valid =
-    (put_from new next (walk_missing_ranges accept m left a) ≡ all) × (next + length (walk_missing_ranges accept m left a) ≡ count)
+    (put_from new next (walk_missing_ranges accept m left a) ≡ all)
+    × (next + length (walk_missing_ranges accept m left a) ≡ count)
     × (has_valid accept m left a ≡ valid)
 
-pub walked_more : (accept : ℕ) (m : Memory) (left a : ℕ) (new : List Range) (next : ℕ) (o : Option Range) (all : List Range)
-    (count : ℕ) (valid : Bool) → 0 < left → is_ok (accepted_rsdp_at accept m a) ≡ false → o ≡ candidate_missing_range accept m a
+pub walked_more : (accept : ℕ) (m : Memory) (left a : ℕ) (new : List Range) (next : ℕ) (o : Option Range)
+    (all : List Range)
+    (count : ℕ) (valid : Bool) → 0 < left → is_ok (accepted_rsdp_at accept m a) ≡ false
+    → o ≡ candidate_missing_range accept m a
     → Walked accept m left a new next all count valid
     → Walked accept m (left - 1) (a + 16) (put_from new next (cons_option o [])) (next + length (cons_option o []))
     all count valid
@@ -368,7 +377,8 @@ walked_more accept m (suc left) a new next o all count valid some refused is w =
     ≡ cons_option o ys = later_missing_ranges (accepted_rsdp_at accept m a) false _ refused
     ∙ ap (λ x. cons_option x ys) (sym is) in
     let found : has_valid accept m (suc left) a ≡ has_valid accept m left (a + 16) =
-    later_found (accepted_rsdp_at accept m a) a (walk accept m left (a + 16)) ∙ ap (λ b. if b then true else has_valid accept m left (a + 16))
+    later_found (accepted_rsdp_at accept m a) a (walk accept m left (a + 16))
+    ∙ ap (λ b. if b then true else has_valid accept m left (a + 16))
     refused in
     rw less (
       put_missing_range new next o ys ∙ (rw missing_ranges at w.0),
@@ -379,18 +389,22 @@ walked_more accept m (suc left) a new next o all count valid some refused is w =
     )
 
 -- a valid one is the last
-pub walked_to : (accept : ℕ) (m : Memory) (left a : ℕ) (new : List Range) (next : ℕ) (all : List Range) (count : ℕ) (valid : Bool)
+pub walked_to : (accept : ℕ) (m : Memory) (left a : ℕ) (new : List Range) (next : ℕ) (all : List Range) (count : ℕ)
+    (valid : Bool)
     → 0 < left → is_ok (accepted_rsdp_at accept m a) ≡ true → Walked accept m left a new next all count valid
     → (new ≡ all) × (next ≡ count) × (true ≡ valid)
 unfolding walk_missing_ranges has_valid
 walked_to accept m zero a new next all count valid some is w = absurd (omega (arith, some))
 walked_to accept m (suc left) a new next all count valid some is w =
-    let missing_ranges : walk_missing_ranges accept m (suc left) a ≡ [] = later_missing_ranges (accepted_rsdp_at accept m a) true _ is in
-    let found : has_valid accept m (suc left) a ≡ true = later_found (accepted_rsdp_at accept m a) a (walk accept m left (a + 16))
+    let missing_ranges : walk_missing_ranges accept m (suc left) a
+    ≡ [] = later_missing_ranges (accepted_rsdp_at accept m a) true _ is in
+    let found : has_valid accept m (suc left) a ≡ true = later_found (accepted_rsdp_at accept m a) a
+    (walk accept m left (a + 16))
     ∙ ap (λ b. if b then true else has_valid accept m left (a + 16)) is in
     (rw missing_ranges at w.0, omega (arith, rw missing_ranges at w.1), sym found ∙ w.2)
 
-pub walked_all : (accept : ℕ) (m : Memory) (left a : ℕ) (new : List Range) (next : ℕ) (all : List Range) (count : ℕ) (valid : Bool)
+pub walked_all : (accept : ℕ) (m : Memory) (left a : ℕ) (new : List Range) (next : ℕ) (all : List Range) (count : ℕ)
+    (valid : Bool)
     → left ≤ 0 → Walked accept m left a new next all count valid
     → (new ≡ all) × (next ≡ count) × (false ≡ valid)
 unfolding walk_missing_ranges has_valid

@@ -62,12 +62,14 @@ missing_ranges_below accept m ps =
 -- the range that a candidate's Length covers, if its first 36 bytes are mapped and that range isn't: the last of its
 -- ranges after the first
 unfoldable pub candidate_missing_range : ℕ → Memory → ℕ → Option Range
-candidate_missing_range accept m a = missing_range (accepted_rsdp_at accept m a) (drop 1 (accepted_rsdp_ranges accept m a))
+candidate_missing_range accept m a = missing_range (accepted_rsdp_at accept m a)
+    (drop 1 (accepted_rsdp_ranges accept m a))
 
 -- the ranges of candidates from an address on, up to the first valid one
 unfoldable pub walk_missing_ranges : ℕ → Memory → ℕ → ℕ → List Range
 walk_missing_ranges accept m zero a = []
-walk_missing_ranges accept m (suc n) a = or_later (λ b. []) (accepted_rsdp_at accept m a) (cons_option (candidate_missing_range accept m a)
+walk_missing_ranges accept m (suc n) a = or_later (λ b. []) (accepted_rsdp_at accept m a)
+    (cons_option (candidate_missing_range accept m a)
     (walk_missing_ranges accept m n
     (a + 16)))
 
@@ -114,7 +116,8 @@ Fits c = c.first + 16 * c.count ≤ 2 ^ 20
 abbrev pub areas_missing_ranges : ℕ → Memory → Areas → List Range
 areas_missing_ranges accept m a =
     walk_missing_ranges accept m a.first.count a.first.first
-    ++ (if has_valid accept m a.first.count a.first.first then [] else walk_missing_ranges accept m a.second.count a.second.first)
+    ++ (if has_valid accept m a.first.count a.first.first then []
+    else walk_missing_ranges accept m a.second.count a.second.first)
 
 unfoldable pub candidate_missing_ranges : Memory → Source → List Range
 candidate_missing_ranges m s = areas_missing_ranges s.accept m (areas_of m s)
@@ -166,7 +169,8 @@ MembersLackRanges = (accept : ℕ) (m : Memory) (p : ℕ) → own_accepted accep
 
 -- so has a candidate whose first 36 bytes are mapped, and that fails because its Length's aren't
 abbrev pub CandidatesLackRanges : Type 0
-CandidatesLackRanges = (accept : ℕ) (m : Memory) (a : ℕ) (b : List ℕ) → lent m a 36 ≡ Ok b → accepted_rsdp_at accept m a ≡ Err MapFailed
+CandidatesLackRanges = (accept : ℕ) (m : Memory) (a : ℕ) (b : List ℕ) → lent m a 36 ≡ Ok b
+    → accepted_rsdp_at accept m a ≡ Err MapFailed
     → IsUnmapped m (candidate_missing_range accept m a)
 
 -- so have the DSDT and the FACS that a FADT points to

@@ -114,8 +114,8 @@ fn stretch(area: AddressRange) -> Candidates
     }
 }
 
-/// Writes what isn't mapped of candidates from an index on, up to the first that the bits of `accept` accept. Returns the next index, and
-/// whether there is one.
+/// Writes what isn't mapped of candidates from an index on, up to the first that the bits of `accept` accept. Returns
+/// the next index, and whether there is one.
 fn walk<H: AcpiHandler>(
     handler: &H,
     candidates: Candidates,
@@ -146,8 +146,8 @@ fn walk<H: AcpiHandler>(
     (next, false)
 }
 
-/// Tries a candidate: whether it is accepted, or else the range that its Length covers, if its first 36 bytes are mapped
-/// and that range isn't.
+/// Tries a candidate: whether it is accepted, or else the range that its Length covers, if its first 36 bytes are
+/// mapped and that range isn't.
 #[tactic(auto, unfolding(crate::specs::Missing::candidate_missing_range))]
 fn try_candidate<H: AcpiHandler>(
     handler: &H,

@@ -8,8 +8,8 @@ use crate::regions::{Mapped, Region};
 use acpi::rsdp::{Rsdp, map_accepted_rsdp, read_accepted};
 use acpi_base::bytes::{has_bit, u8_in};
 
-/// A source with a start at the root table that a copy of the RSDP points to (section 5.2.5.3). A copy of revision 0, and
-/// one that the source accepts by its first 20 bytes, has at least these, and another all bytes of its Length.
+/// A source with a start at the root table that a copy of the RSDP points to (section 5.2.5.3). A copy of revision 0,
+/// and one that the source accepts by its first 20 bytes, has at least these, and another all bytes of its Length.
 ///
 /// Fails as a start at an RSDP does, with `MapFailed` if the copy has too few bytes.
 #[tactic(auto, using(crate::proofs::CopiedRsdp::memory_is))]
@@ -43,8 +43,8 @@ fn started_by<'k>(source: Source<'k>, rsdp: &Rsdp) -> Source<'k>
     }
 }
 
-/// Whether a copy of at least 20 bytes ends after these: its revision is 0, or by the bits of `accept` they are enough and
-/// it has no 36.
+/// Whether a copy of at least 20 bytes ends after these: its revision is 0, or by the bits of `accept` they are enough
+/// and it has no 36.
 fn ends_early(copy: &[u8], accept: u32) -> bool
     requires { 20 ≤ length copy.now }
     ensures { result ≡ ends_early accept copy.now }

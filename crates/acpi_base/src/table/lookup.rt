@@ -218,8 +218,8 @@ fn claim_accepted<'h, H: Lender, T: AcpiTable>(
 
 /// The bytes of the table at a physical address, if it is accepted for `T` (section 5.2.6): if it is valid, or only
 /// checks fail that are given up. By bit 0 of `accept` its sum may be any, by bit 1 both of its ids, and by 0 it has to
-/// be valid. Of the result of `T::validate` an error of the sum or of an id doesn't count that is given up, and after one
-/// of an id only the sum is left to check. `T::check_own` stays.
+/// be valid. Of the result of `T::validate` an error of the sum or of an id doesn't count that is given up, and after
+/// one of an id only the sum is left to check. `T::check_own` stays.
 ///
 /// Fails as `map_table` does, but for those errors.
 #[inline(always)]
@@ -336,7 +336,8 @@ pub fn valid_by<'h, H: Lender>(
         (table_at (H.memory handler.now) (accepted accept (sdt_kind signature least)) address) }
     // It depends on the table's header and, if this has the names and the least length, on the table.
     ensures footprint { let m = H.memory handler.now in
-        Footprint m (table_ranges m (accepted accept (sdt_kind signature least)) address) (λ n. table_at n (accepted accept (sdt_kind signature least)) address)
+        Footprint m (table_ranges m (accepted accept (sdt_kind signature least)) address)
+            (λ n. table_at n (accepted accept (sdt_kind signature least)) address)
         (Gives (λ v. shown_by v.claim) result) }
 {
     let head = claim_header(handler, address, signature)?;

@@ -23,8 +23,8 @@ pub(super) fn answer<H: AcpiHandler>(out: Out<'_>, handler: &H, bits: u32) {
     }
 }
 
-/// Opens tables with the bits of a policy and a way as words, `BITS rsdp ADDRESS`, `BITS bios` or `BITS areas AREAS`, and
-/// prints their revision and root table, or why there are none.
+/// Opens tables with the bits of a policy and a way as words, `BITS rsdp ADDRESS`, `BITS bios` or `BITS areas AREAS`,
+/// and prints their revision and root table, or why there are none.
 pub(super) fn opened<H: AcpiHandler>(out: Out<'_>, handler: &H, words: &str) {
     match open(out, handler, words) {
         Err(refusal) => out.show(&refusal),

@@ -9,7 +9,8 @@ returns-then-is_found-clause-written g c =
     let m = g.H.AcpiHandler.memory c.args.handler.now in
     let w = c.walk-count.ensures in
     let found : c.walk-count.result.1 ≡ true = cc in
-    subst (λ a. Writes c.walk-count.result.0 c.args.out.now c.walk-count.new.out (areas_missing_ranges c.args.source.now.accept m a))
+    subst (λ a. Writes c.walk-count.result.0 c.args.out.now c.walk-count.new.out
+    (areas_missing_ranges c.args.source.now.accept m a))
     c.areas_of-areas.ensures.exact
     (first_found c.args.source.now.accept m c.areas_of-areas.result _ _ _ _ w.written w.next w.found found)
 
@@ -21,5 +22,6 @@ returns-clause-written g c =
     let none : c.walk-count.result.1 ≡ false = cc in
     subst (λ a. Writes c.walk.result.0 c.args.out.now c.walk.new.out
     (areas_missing_ranges c.args.source.now.accept m a)) c.areas_of-areas.ensures.exact
-    (both_walked c.args.source.now.accept m c.areas_of-areas.result _ _ _ _ w.written w.next w.found _ _ none c.walk.ensures.written
+    (both_walked c.args.source.now.accept m c.areas_of-areas.result _ _ _ _ w.written w.next w.found _ _ none
+    c.walk.ensures.written
     c.walk.ensures.next)

@@ -14,15 +14,18 @@ loop-left-preserved g c =
     )
 
 pub returns-in-Ok-clause-written : goal.returns-in-Ok-clause-written
-returns-in-Ok-clause-written g c = (walked_to c.args.accept _ _ _ _ _ _ _ _ c.loop-left-test.true (sym c.in-Ok.ensures.valid)
+returns-in-Ok-clause-written g c = (walked_to c.args.accept _ _ _ _ _ _ _ _ c.loop-left-test.true
+    (sym c.in-Ok.ensures.valid)
     c.loop-left.invariant.0).0
 
 pub returns-in-Ok-clause-next : goal.returns-in-Ok-clause-next
-returns-in-Ok-clause-next g c = (walked_to c.args.accept _ _ _ _ _ _ _ _ c.loop-left-test.true (sym c.in-Ok.ensures.valid)
+returns-in-Ok-clause-next g c = (walked_to c.args.accept _ _ _ _ _ _ _ _ c.loop-left-test.true
+    (sym c.in-Ok.ensures.valid)
     c.loop-left.invariant.0).1
 
 pub returns-in-Ok-clause-found : goal.returns-in-Ok-clause-found
-returns-in-Ok-clause-found g c = (walked_to c.args.accept _ _ _ _ _ _ _ _ c.loop-left-test.true (sym c.in-Ok.ensures.valid)
+returns-in-Ok-clause-found g c = (walked_to c.args.accept _ _ _ _ _ _ _ _ c.loop-left-test.true
+    (sym c.in-Ok.ensures.valid)
     c.loop-left.invariant.0).2
 
 pub returns-clause-written : goal.returns-clause-written

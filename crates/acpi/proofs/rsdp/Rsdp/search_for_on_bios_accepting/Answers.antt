@@ -14,7 +14,8 @@ search_area-requires-clause-asked g c =
 pub search_last-requires-clause-asked : goal.search_last-requires-clause-asked
 search_last-requires-clause-asked g c =
     let h = c.args.handler.now in
-    subst (λ s. Allows (g.H.Lender.may h) (area_ranges c.args.accept (g.H.Lender.memory h) s)) (sym c.second_area.ensures.value)
+    subst (λ s. Allows (g.H.Lender.may h) (area_ranges c.args.accept (g.H.Lender.memory h) s))
+    (sym c.second_area.ensures.value)
     (asked_second_area (g.H.Lender.may h) c.args.accept (g.H.Lender.memory h) c.in-Ok.word c.requires c.in-Ok.ensures
     (rw c.in-Ok-None.field-0-is at c.in-Ok-None.ensures.found))
 
@@ -23,28 +24,34 @@ unfolding accepted_found_rsdp
 returns-in-Ok-Some-clause-exact g c = search rules
 
 pub returns-in-Ok-Some-clause-valid : goal.returns-in-Ok-Some-clause-valid
-returns-in-Ok-Some-clause-valid g c = found_valid c.args.accept _ (Ok c.in-Ok-Some.found) (returns-in-Ok-Some-clause-exact g c)
+returns-in-Ok-Some-clause-valid g c = found_valid c.args.accept _ (Ok c.in-Ok-Some.found)
+    (returns-in-Ok-Some-clause-exact g c)
 
 pub returns-in-Ok-Some-clause-least : goal.returns-in-Ok-Some-clause-least
-returns-in-Ok-Some-clause-least g c = searched c.args.accept (g.H.Lender.memory c.args.handler.now) placed (Ok c.in-Ok-Some.found)
+returns-in-Ok-Some-clause-least g c = searched c.args.accept (g.H.Lender.memory c.args.handler.now) placed
+    (Ok c.in-Ok-Some.found)
     (returns-in-Ok-Some-clause-exact g c)
 
 pub returns-in-Ok-Some-clause-footprint : goal.returns-in-Ok-Some-clause-footprint
-returns-in-Ok-Some-clause-footprint g c = λ n h. rw (same_search c.args.accept _ n h) (returns-in-Ok-Some-clause-exact g c)
+returns-in-Ok-Some-clause-footprint g c = λ n h. rw (same_search c.args.accept _ n h)
+    (returns-in-Ok-Some-clause-exact g c)
 
 pub returns-in-Ok-None-clause-exact : goal.returns-in-Ok-None-clause-exact
 unfolding accepted_found_rsdp
 returns-in-Ok-None-clause-exact g c = search rules
 
 pub returns-in-Ok-None-clause-valid : goal.returns-in-Ok-None-clause-valid
-returns-in-Ok-None-clause-valid g c = found_valid c.args.accept _ c.search_last.result (returns-in-Ok-None-clause-exact g c)
+returns-in-Ok-None-clause-valid g c = found_valid c.args.accept _ c.search_last.result
+    (returns-in-Ok-None-clause-exact g c)
 
 pub returns-in-Ok-None-clause-least : goal.returns-in-Ok-None-clause-least
-returns-in-Ok-None-clause-least g c = searched c.args.accept (g.H.Lender.memory c.args.handler.now) placed c.search_last.result
+returns-in-Ok-None-clause-least g c = searched c.args.accept
+    (g.H.Lender.memory c.args.handler.now) placed c.search_last.result
     (returns-in-Ok-None-clause-exact g c)
 
 pub returns-in-Ok-None-clause-footprint : goal.returns-in-Ok-None-clause-footprint
-returns-in-Ok-None-clause-footprint g c = λ n h. rw (same_search c.args.accept _ n h) (returns-in-Ok-None-clause-exact g c)
+returns-in-Ok-None-clause-footprint g c = λ n h. rw (same_search c.args.accept _ n h)
+    (returns-in-Ok-None-clause-exact g c)
 
 pub returns-in-Err-search_area-clause-exact : goal.returns-in-Err-search_area-clause-exact
 unfolding accepted_found_rsdp
@@ -52,7 +59,8 @@ returns-in-Err-search_area-clause-exact g c = search rules
 
 pub returns-in-Err-search_area-clause-least : goal.returns-in-Err-search_area-clause-least
 returns-in-Err-search_area-clause-least g c =
-    searched c.args.accept (g.H.Lender.memory c.args.handler.now) (λ (found : ℕ × List ℕ). found) (Err c.in-Err-search_area.error)
+    searched c.args.accept (g.H.Lender.memory c.args.handler.now) (λ (found : ℕ × List ℕ). found)
+    (Err c.in-Err-search_area.error)
     (returns-in-Err-search_area-clause-exact g c)
 
 pub returns-in-Err-search_area-clause-footprint : goal.returns-in-Err-search_area-clause-footprint
@@ -64,7 +72,8 @@ unfolding accepted_found_rsdp
 returns-in-Err-clause-exact g c = search rules
 
 pub returns-in-Err-clause-least : goal.returns-in-Err-clause-least
-returns-in-Err-clause-least g c = searched c.args.accept (g.H.Lender.memory c.args.handler.now) (λ (found : ℕ × List ℕ). found)
+returns-in-Err-clause-least g c = searched c.args.accept (g.H.Lender.memory c.args.handler.now)
+    (λ (found : ℕ × List ℕ). found)
     (Err c.in-Err.error) (returns-in-Err-clause-exact g c)
 
 pub returns-in-Err-clause-footprint : goal.returns-in-Err-clause-footprint

@@ -16,7 +16,8 @@ returns-in-Ok-clause-refused g c =
     (λ x q k. search rules) in
     front_refused c.args.accept m c.args.address _ b (g.met.H.Lender.regions c.args.handler.now) there
     (c.in-Err-check_mapped.field-0, rw c.in-Ok.ensures.start at c.in-Err-check_mapped.ensures)
-    (λ i some less. before_other (λ k. is_refused_in c.args.accept b (16 * k) ≡ false) (λ k. is_refused_in c.args.accept b (16 * k) ≡ true)
+    (λ i some less. before_other (λ k. is_refused_in c.args.accept b (16 * k) ≡ false)
+    (λ k. is_refused_in c.args.accept b (16 * k) ≡ true)
     c.args.left c.find-other.result others i some (rw c.unwrap_or.ensures at less))
 
 pub returns-clause-refused : goal.returns-clause-refused

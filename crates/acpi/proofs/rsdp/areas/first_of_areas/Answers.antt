@@ -13,14 +13,16 @@ pub loop-area-preserved : goal.loop-area-preserved
 loop-area-preserved g c =
     let h = c.args.handler.now in
     let less : c.loop-area.area-index < length c.args.areas.now = omega arith in
-    later_areas c.args.accept (g.H.Lender.may h) (g.H.Lender.memory h) _ _ _ _ less c.loop-area.invariant.0 c.loop-area.invariant.1
+    later_areas c.args.accept (g.H.Lender.may h) (g.H.Lender.memory h) _ _ _ _ less c.loop-area.invariant.0
+    c.loop-area.invariant.1
     c.in_default.ensures.found
 
 pub returns-in-Some-clause-exact : goal.returns-in-Some-clause-exact
 unfolding accepted_in_areas
 returns-in-Some-clause-exact g c =
     let less : c.loop-area.area-index < length c.args.areas.now = omega arith in
-    let first = found_in_turn c.args.accept (g.H.Lender.memory c.args.handler.now) _ _ _ _ _ less c.loop-area.invariant.0
+    let first = found_in_turn c.args.accept (g.H.Lender.memory c.args.handler.now) _ _ _ _ _ less
+    c.loop-area.invariant.0
     c.in-Some.ensures.found in
     rw (← first) refl
 

@@ -7,7 +7,8 @@ use Rattle.acpi.proofs.rsdp.areas.first_valid.Given as goal
 abbrev pub invariant-loop-passed : goal.invariant-loop-passed
 invariant-loop-passed g l =
     let m = g.H.Lender.memory l.handler in
-    (l.passed ≤ l.count) × (walk l.accept m (l.count - l.passed) (l.first + 16 * l.passed) ≡ walk l.accept m l.count l.first)
+    (l.passed ≤ l.count) × (walk l.accept m (l.count - l.passed) (l.first + 16 * l.passed)
+    ≡ walk l.accept m l.count l.first)
     × Allows (g.H.Lender.may l.handler) (walk_ranges l.accept m (l.count - l.passed) (l.first + 16 * l.passed))
 
 abbrev pub decreases-loop-passed : goal.decreases-loop-passed

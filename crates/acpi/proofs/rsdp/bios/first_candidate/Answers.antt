@@ -46,5 +46,6 @@ loop-k-init g c =
     let m = g.H.Lender.memory c.args.handler.now in
     let may = g.H.Lender.may c.args.handler.now in
     let s = c.args.area in
-    not_begun (λ n a. (walk c.args.accept m n a ≡ walk c.args.accept m (count_of s) s.start) × Allows may (walk_ranges c.args.accept m n a)) (count_of s) s.start
+    not_begun (λ n a. (walk c.args.accept m n a ≡ walk c.args.accept m (count_of s) s.start)
+    × Allows may (walk_ranges c.args.accept m n a)) (count_of s) s.start
     (refl, asked_walk may c.args.accept m s _ c.requires.asked c.requires.lent)

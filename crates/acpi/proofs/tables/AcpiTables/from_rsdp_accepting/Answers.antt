@@ -37,5 +37,6 @@ returns-clause-exact g c =
 pub returns-clause-footprint : goal.returns-clause-footprint
 returns-clause-footprint g c n h =
     subst (λ o. Gives (λ t. opened_of t) c.open_read.result o)
-    (sym (same_opened_by_rsdp (g.P.Policy.bits c.args.policy) (g.H.Lender.memory c.args.handler.now) n c.args.address h))
+    (sym (same_opened_by_rsdp (g.P.Policy.bits c.args.policy)
+    (g.H.Lender.memory c.args.handler.now) n c.args.address h))
     (returns-clause-exact g c)

@@ -18,18 +18,21 @@ open_read-requires g c =
     let m = g.H.Lender.memory h in
     let there = subst (λ bits. accepted_in_areas bits m c.args.areas.now ≡ Ok (placed c.in_ok-rsdp.rsdp)) c.bits.ensures
     c.in_ok-rsdp.ensures.exact in
-    asked_found_in (g.H.Lender.may h) (g.P.Policy.bits c.args.policy) m c.args.areas.now (placed c.in_ok-rsdp.rsdp) c.requires there
+    asked_found_in (g.H.Lender.may h) (g.P.Policy.bits c.args.policy) m c.args.areas.now
+    (placed c.in_ok-rsdp.rsdp) c.requires there
 
 pub returns-clause-exact : goal.returns-clause-exact
 returns-clause-exact g c =
     let m = g.H.Lender.memory c.args.handler.now in
     let there = subst (λ bits. accepted_in_areas bits m c.args.areas.now ≡ Ok (placed c.in_ok-rsdp.rsdp)) c.bits.ensures
     c.in_ok-rsdp.ensures.exact in
-    by_areas (λ t. opened_of t) (g.P.Policy.bits c.args.policy) m c.open_read.result c.args.areas.now (placed c.in_ok-rsdp.rsdp) there
+    by_areas (λ t. opened_of t) (g.P.Policy.bits c.args.policy) m c.open_read.result c.args.areas.now
+    (placed c.in_ok-rsdp.rsdp) there
     c.open_read.ensures.exact
 
 pub returns-clause-footprint : goal.returns-clause-footprint
 returns-clause-footprint g c n h =
     subst (λ o. Gives (λ t. opened_of t) c.open_read.result o)
-    (sym (same_opened_in_areas (g.P.Policy.bits c.args.policy) (g.H.Lender.memory c.args.handler.now) n c.args.areas.now h))
+    (sym (same_opened_in_areas (g.P.Policy.bits c.args.policy)
+    (g.H.Lender.memory c.args.handler.now) n c.args.areas.now h))
     (returns-clause-exact g c)
