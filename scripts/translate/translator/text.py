@@ -13,9 +13,11 @@ KNOWN = (r'(?:(?:nuw|nsw|exact|inbounds|nusw|nneg|disjoint|samesign|noundef|zero
          r'readnone|returned|writable|immarg|tail|fastcc|dead_on_unwind|dead_on_return|nofree|'
          r'align \d+|(?:range|captures|dereferenceable|dereferenceable_or_null|memory|sret)\([^()]*\)|'
          r'initializes\((?:\([^()]*\)(?:, )?)*\)) )*')
+# C's words, the file's own, and macros of other trees (tests/c/macros.h).
 RESERVED = set('''uptr auto break case char const continue copy default do double else enum extern fill float for goto if inline
     int lanes long move register return short signed sizeof static struct switch typedef union unsigned void volatile while
-    memcpy memmove memset u8 u16 u32 u64 s8 s16 s32 s64'''.split())
+    memcpy memmove memset u8 u16 u32 u64 s8 s16 s32 s64
+    arm cdecl current far hyper i386 interface linux major max min minor mips near pascal small sun unix'''.split())
 
 # What the module has, by LLVM's names: functions, and the names in C of data.
 functions, data_names = {}, {}
