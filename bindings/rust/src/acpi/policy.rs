@@ -4,8 +4,8 @@
 use crate::base::table::accepted_at;
 use crate::base::{AcpiResult, AcpiTable, Lender, PhysicalMapping};
 
-/// Which checks of tables and of the RSDP a caller gives up. Each table that is valid is accepted, and each that fails no
-/// other check: a policy only ever accepts more. What only one type of table has to pass (`AcpiTable::check_own`) is
+/// Which checks of tables and of the RSDP a caller gives up. Each table that is valid is accepted, and each that fails
+/// no other check: a policy only ever accepts more. What only one type of table has to pass (`AcpiTable::check_own`) is
 /// never given up.
 pub trait Policy: Copy {
     /// The checks that are given up, as the bits of `Accept`.

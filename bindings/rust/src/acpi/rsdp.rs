@@ -173,9 +173,9 @@ fn check_extended<H: Lender>(handler: &H, rsdp: &PhysicalMapping<'_, H, Rsdp>) -
     check_whole(handler, rsdp.physical_start(), length)
 }
 
-/// The RSDP whose 36 bytes are mapped, as it is read if the bits of `accept` accept it. It is read as one of revision 0,
-/// of which only the first 20 bytes count, by bit 3 if its revision is 1, and by bit 4 if its whole fails its checks:
-/// the length is under 36, or as many bytes aren't mapped or don't sum to 0 modulo 256.
+/// The RSDP whose 36 bytes are mapped, as it is read if the bits of `accept` accept it. It is read as one of revision
+/// 0, of which only the first 20 bytes count, by bit 3 if its revision is 1, and by bit 4 if its whole fails its
+/// checks: the length is under 36, or as many bytes aren't mapped or don't sum to 0 modulo 256.
 pub fn read_accepted<H: Lender>(handler: &H, rsdp: &PhysicalMapping<'_, H, Rsdp>, accept: u32) -> Rsdp {
     let record = *rsdp.get();
     if (has_bit(accept as u64, 3) && record.revision == 1)
@@ -186,8 +186,8 @@ pub fn read_accepted<H: Lender>(handler: &H, rsdp: &PhysicalMapping<'_, H, Rsdp>
     record
 }
 
-/// The RSDP at an address, if the bits of `accept` accept it: a mapping of its 36 bytes. `read_accepted` reads it. By bit
-/// 2 its OEM id may be any. By bit 3 one of revision 1 is accepted by its first 20 bytes, and by bit 4 each.
+/// The RSDP at an address, if the bits of `accept` accept it: a mapping of its 36 bytes. `read_accepted` reads it. By
+/// bit 2 its OEM id may be any. By bit 3 one of revision 1 is accepted by its first 20 bytes, and by bit 4 each.
 ///
 /// Fails as `map_rsdp` does, but for the checks that are given up.
 pub fn map_accepted_rsdp<'h, H: Lender>(

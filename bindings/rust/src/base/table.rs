@@ -12,8 +12,8 @@ use header::SdtHeader;
 pub use lookup::{ValidTable, accepted_at, map_own_sdt, map_sdt, map_table, own_valid_by, valid_at, valid_by};
 use signature::Signature;
 
-/// A type of table (section 5.2.6). A kernel may add types of its own. `kind` is what a lookup checks: the
-/// signature, the least length, and what `validate` and `check_own` mean, which are functions of the table's bytes alone.
+/// A type of table (section 5.2.6). A kernel may add types of its own. `kind` is what a lookup checks: the signature,
+/// the least length, and what `validate` and `check_own` mean, which are functions of the table's bytes alone.
 pub trait AcpiTable: PhysicalRecord {
     /// Signature: the four letters that name the table (section 5.2.6).
     const SIGNATURE: Signature;

@@ -69,8 +69,8 @@ fn stretch(area: AddressRange) -> Candidates {
     Candidates { first: area.address, count: u64::saturating_sub(area.length, 4) / 16 }
 }
 
-/// Writes what isn't mapped of candidates from an index on, up to the first that the bits of `accept` accept. Returns the next index, and
-/// whether there is one.
+/// Writes what isn't mapped of candidates from an index on, up to the first that the bits of `accept` accept. Returns
+/// the next index, and whether there is one.
 fn walk<H: AcpiHandler>(
     handler: &H,
     candidates: Candidates,
@@ -92,8 +92,8 @@ fn walk<H: AcpiHandler>(
     (next, false)
 }
 
-/// Tries a candidate: whether it is accepted, or else the range that its Length covers, if its first 36 bytes are mapped
-/// and that range isn't.
+/// Tries a candidate: whether it is accepted, or else the range that its Length covers, if its first 36 bytes are
+/// mapped and that range isn't.
 fn try_candidate<H: AcpiHandler>(handler: &H, address: u64, accept: u32) -> Result<(), Option<Range>> {
     match map_accepted_rsdp(handler, address, accept) {
         Ok(_rsdp) => Ok(()),

@@ -7,8 +7,8 @@ use crate::c_lib::records::Source;
 use crate::c_lib::refusal::Refusal;
 use crate::c_lib::regions::{Mapped, Region};
 
-/// A source with a start at the root table that a copy of the RSDP points to (section 5.2.5.3). A copy of revision 0, and
-/// one that the source accepts by its first 20 bytes, has at least these, and another all bytes of its Length.
+/// A source with a start at the root table that a copy of the RSDP points to (section 5.2.5.3). A copy of revision 0,
+/// and one that the source accepts by its first 20 bytes, has at least these, and another all bytes of its Length.
 ///
 /// Fails as a start at an RSDP does, with `MapFailed` if the copy has too few bytes.
 pub fn start_of_rsdp<'k>(copy: &[u8], source: Source<'k>) -> Result<Source<'k>, Refusal> {
@@ -29,8 +29,8 @@ fn started_by<'k>(source: Source<'k>, rsdp: &Rsdp) -> Source<'k> {
     Source { regions: source.regions, address, start, accept: source.accept }
 }
 
-/// Whether a copy of at least 20 bytes ends after these: its revision is 0, or by the bits of `accept` they are enough and
-/// it has no 36.
+/// Whether a copy of at least 20 bytes ends after these: its revision is 0, or by the bits of `accept` they are enough
+/// and it has no 36.
 fn ends_early(copy: &[u8], accept: u32) -> bool {
     let revision = u8_in(copy, 15);
     let is_first_enough = has_bit(accept as u64, 4) || (has_bit(accept as u64, 3) && revision == 1);

@@ -337,7 +337,7 @@ pub fn valid_by<'h, H: Lender>(
     // It depends on the table's header and, if this has the names and the least length, on the table.
     ensures footprint { let m = H.memory handler.now in
         Footprint m (table_ranges m (accepted accept (sdt_kind signature least)) address)
-            (λ n. table_at n (accepted accept (sdt_kind signature least)) address)
+        (λ n. table_at n (accepted accept (sdt_kind signature least)) address)
         (Gives (λ v. shown_by v.claim) result) }
 {
     let head = claim_header(handler, address, signature)?;

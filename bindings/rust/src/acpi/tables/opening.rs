@@ -86,8 +86,8 @@ impl<'h, H: Lender, P: Policy> AcpiTables<'h, H, P> {
         }
     }
 
-    /// The tables below the root table that the RSDP at a physical address leads to, which a policy accepts, as then the
-    /// root table and its members are: by `map_accepted_rsdp`, `read_accepted` and `open_accepting`.
+    /// The tables below the root table that the RSDP at a physical address leads to, which a policy accepts, as then
+    /// the root table and its members are: by `map_accepted_rsdp`, `read_accepted` and `open_accepting`.
     ///
     /// Fails as `from_rsdp` does, but for the checks that the policy gives up.
     pub fn from_rsdp_accepting(handler: &'h H, address: u64, policy: P) -> AcpiResult<Self> {

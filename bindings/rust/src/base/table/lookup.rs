@@ -130,8 +130,8 @@ fn claim_accepted<'h, H: Lender, T: AcpiTable>(head: Claim<'h, H>, accept: u32) 
 
 /// The bytes of the table at a physical address, if it is accepted for `T` (section 5.2.6): if it is valid, or only
 /// checks fail that are given up. By bit 0 of `accept` its sum may be any, by bit 1 both of its ids, and by 0 it has to
-/// be valid. Of the result of `T::validate` an error of the sum or of an id doesn't count that is given up, and after one
-/// of an id only the sum is left to check. `T::check_own` stays.
+/// be valid. Of the result of `T::validate` an error of the sum or of an id doesn't count that is given up, and after
+/// one of an id only the sum is left to check. `T::check_own` stays.
 ///
 /// Fails as `map_table` does, but for those errors.
 #[inline(always)]
