@@ -107,12 +107,12 @@ impl<H: AcpiHandler> Listing<Unmapped<'_, H>, Range> for Pointers<'_> {
         (λ s. pointers_left s) };
 
     /// The unmapped range because of which a member of the root table fails.
-    fn record(unmapped_range: &Unmapped<'_, H>, address: u64) -> Option<Range>
-        ensures { let u = unmapped_range.now in result
+    fn record(known: &Unmapped<'_, H>, address: u64) -> Option<Range>
+        ensures { let u = known.now in result
             ≡ member_missing_range u.accept (H.memory u.handler.now) address }
     {
-        match own_valid_by(unmapped_range.handler, address, unmapped_range.accept) {
-            Err(AcpiError::MapFailed) => Some(table_missing_range(unmapped_range.handler, address)),
+        match own_valid_by(known.handler, address, known.accept) {
+            Err(AcpiError::MapFailed) => Some(table_missing_range(known.handler, address)),
             Err(_) => None,
             Ok(table) => {
                 table.mapping::<SdtHeader>();

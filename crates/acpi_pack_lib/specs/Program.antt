@@ -45,10 +45,10 @@ IsGrown r bytes answer old new =
     new ≡ old ++ record { name = r.out; sources = r.names; bytes = bytes; answer = answer } ∷ []
 
 -- what is printed once they are saved, and else; what is left out comes first
-abbrev pub IsHelp : Request → List ℕ → List ℕ → Result (Unit {0}) SaveError → ℕ → Effects → Effects → Type 0
-IsHelp r left_out lines (Ok saved) status old new =
+abbrev pub IsPrinted : Request → List ℕ → List ℕ → Result (Unit {0}) SaveError → ℕ → Effects → Effects → Type 0
+IsPrinted r left_out lines (Ok saved) status old new =
     (status ≡ 0) × Appends old.err new.err left_out × Appends old.out new.out lines
-IsHelp r left_out lines (Err e) status old new = (status ≡ 1)
+IsPrinted r left_out lines (Err e) status old new = (status ≡ 1)
     × Appends old.err new.err (left_out ++ refused_line r.out (save_error_text e)) × (new.out ≡ old.out)
 
 -- what is saved and printed, and the status, by the outcome
@@ -59,7 +59,7 @@ Does (outcome.Refused text code) status old new = (status ≡ code) × (new.save
     × (new.out ≡ old.out) × Appends old.err new.err (string_bytes text)
 Does (outcome.Packed command left_out bytes lines) status old new = (answer : Result (Unit {0}) SaveError)
     × IsGrown (request_of command) bytes.items answer old.saved new.saved
-    × IsHelp (request_of command) (string_bytes left_out) (string_bytes lines) answer status old new
+    × IsPrinted (request_of command) (string_bytes left_out) (string_bytes lines) answer status old new
 
 -- the file of an outcome was to be saved; others have none
 abbrev pub SavesOutcome : Outcome → List FileSaved → List FileSaved → Type 0
