@@ -301,8 +301,8 @@ enum zacpi_accept {
     /* An RSDP of Revision 1, which no specification has, is read as one of Revision 0: by its first
      * 20 bytes, which point to the RSDT. */
     ZACPI_ACCEPT_RSDP_REVISION = 8,
-    /* So is an RSDP of which only the first 20 bytes pass their checks: its Length is below 36, or as
-     * many bytes aren't mapped or don't sum to 0. */
+    /* An RSDP is read in this way too if only its first 20 bytes pass their checks: Length is below
+     * 36, or as many bytes aren't mapped or don't sum to 0. */
     ZACPI_ACCEPT_RSDP_FIRST = 16
 };
 

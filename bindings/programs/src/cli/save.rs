@@ -7,8 +7,8 @@ use crate::rattle::os::unix::fs::{MetadataExt, OpenOptionsExt};
 use crate::rattle::{HostRuntime, format};
 use core::fmt;
 
-/// Why a file is not saved, in the order in which that is tested; but a name about which the system doesn't
-/// result is an error, `Unwritable`, before `PartExists` is tested.
+/// Why a file is not saved, in the order in which that is tested; but if the system can't look at the name with `.part`
+/// after it, that is `Unwritable`, before `PartExists` is tested.
 #[derive(Clone, Copy, Debug, PartialEq, Eq)]
 pub enum SaveError {
     /// Something else than a regular file has the name: a folder, a device, a pipe, a socket, or a symbolic

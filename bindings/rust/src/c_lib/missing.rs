@@ -61,9 +61,9 @@ struct Unmapped<'h, H: AcpiHandler> {
 
 impl<H: AcpiHandler> Listing<Unmapped<'_, H>, Range> for Pointers<'_> {
     /// The unmapped range because of which a member of the root table fails.
-    fn record(unmapped_range: &Unmapped<'_, H>, address: u64) -> Option<Range> {
-        match own_valid_by(unmapped_range.handler, address, unmapped_range.accept) {
-            Err(AcpiError::MapFailed) => Some(table_missing_range(unmapped_range.handler, address)),
+    fn record(known: &Unmapped<'_, H>, address: u64) -> Option<Range> {
+        match own_valid_by(known.handler, address, known.accept) {
+            Err(AcpiError::MapFailed) => Some(table_missing_range(known.handler, address)),
             Err(_) => None,
             Ok(table) => {
                 table.mapping::<SdtHeader>();
