@@ -302,7 +302,7 @@ enum zacpi_accept {
      * 20 bytes, which point to the RSDT. */
     ZACPI_ACCEPT_RSDP_REVISION = 8,
     /* An RSDP is read in this way too if only its first 20 bytes pass their checks: Length is below
-     * 36, or as many bytes aren't mapped or don't sum to 0. */
+     * 36, or its bytes by Length aren't mapped or don't sum to 0. */
     ZACPI_ACCEPT_RSDP_FIRST = 16
 };
 
