@@ -1,13 +1,24 @@
 //! The program by the checks of scripts/check, which explain what they try: with overflow checks, as cargo tests it.
 
-use std::path::Path;
+use std::path::{Path, PathBuf};
 use std::process::Command;
+
+/// acpi_view, which some runs read an image by, built beside the program.
+fn built_view() -> PathBuf {
+    let view = Path::new(env!("CARGO_BIN_EXE_acpi_dump")).with_file_name("acpi_view");
+    let mut cargo = Command::new(env!("CARGO"));
+    cargo.args(["build", "-q", "-p", "acpi_programs", "--bin", "acpi_view", "--target-dir"]);
+    cargo.arg(view.ancestors().nth(2).expect("it is in a profile's folder")).current_dir(env!("CARGO_MANIFEST_DIR"));
+    cargo.args(view.parent().filter(|folder| folder.ends_with("release")).map(|_| "--release"));
+    assert!(cargo.status().is_ok_and(|status| status.success()), "acpi_view isn't built");
+    view
+}
 
 /// Runs a check over the built program, which has to count no failure. It takes python3.
 fn passes(check: &str, words: &[&str]) {
     let top = Path::new(env!("CARGO_MANIFEST_DIR")).join("../..");
     let mut command = Command::new("python3");
-    command.arg("-B").arg(top.join("scripts/check").join(check)).args(words);
+    command.arg("-B").arg(top.join("scripts/check").join(check)).args(words).env("ACPI_VIEW", built_view());
     let ran = command.env("ACPI_DUMP", env!("CARGO_BIN_EXE_acpi_dump")).output().expect("python3 runs");
     let printed = String::from_utf8_lossy(&ran.stdout);
     let last = printed.lines().last().unwrap_or_default();
