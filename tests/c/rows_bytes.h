@@ -192,7 +192,7 @@ static const struct entries_row {
     {REGIONS(laid), ZACPI_ACCEPT_IDS, IN_SUM, {41, 0, 1, 1, 1}, ZACPI_SDT_INVALID_CHECKSUM, "OEM1", 0, 0, {0}},
     {REGIONS(laid), ZACPI_ACCEPT_SUMS, IN_SUM, {41, 0, 1, 1, 1}, ZACPI_SDT_INVALID_LENGTH, "OEM1", 0, 0, {0}},
     {REGIONS(laid), ZACPI_ACCEPT_SUMS, IN_SUM, {36, 0, 1, 1, 1}, ZACPI_OK, NULL, 0, 1, {0}}, /* a Length of 0 */
-    {REGIONS(laid), 4, IN_SUM, {36, 0, 8, 1, 1}, ZACPI_UNKNOWN_POLICY, NULL, 0, 0, {0}},
+    {REGIONS(laid), 32, IN_SUM, {36, 0, 8, 1, 1}, ZACPI_UNKNOWN_POLICY, NULL, 0, 0, {0}},
     {REGIONS(laid), 3, IN_OTHER, {36, 0, 1, 1, 1}, ZACPI_SDT_INVALID_SIGNATURE, "\377OEM", 0, 0, {0}},
     {laid, 1, 0, IN_APIC, {52, 0, 1, 1, 1}, ZACPI_OK, NULL, 2, 0,
      {TABLE(IN_APIC) + 52, 1, 12, TABLE(IN_APIC) + 64, 0x80, 2}},
@@ -202,7 +202,7 @@ static const struct entries_row {
     {REGIONS(laid), 0, IN_LOST, {36, 0, 1, 1, 1}, ZACPI_MAP_FAILED, NULL, 0, 0, {0}},
     {REGIONS(laid), 0, NOWHERE, {36, 0, 1, 1, 1}, ZACPI_MAP_FAILED, NULL, 0, 0, {0}},
     {REGIONS(laid), 0, NOWHERE, {36, 0, 8, 8, 8}, ZACPI_UNKNOWN_WIDTH, NULL, 0, 0, {0}},
-    {REGIONS(placed_over), 4, IN_APIC, {44, 0, 8, 8, 8}, ZACPI_REGIONS_NOT_ASCENDING, NULL, 0, 0, {0}},
+    {REGIONS(placed_over), 32, IN_APIC, {44, 0, 8, 8, 8}, ZACPI_REGIONS_NOT_ASCENDING, NULL, 0, 0, {0}},
     {REGIONS(placed_too_high), 0, IN_APIC, {44, 0, 8, 8, 8}, ZACPI_REGION_TOO_HIGH, NULL, 0, 0, {0}}};
 
 static const struct call call_entries = {"list_entries", NULL, of_entry, sizeof(struct zacpi_entry), 1};
@@ -237,6 +237,7 @@ static const uint8_t copy_long[44] = {RSD_PTR, 0xcb, [15] = 2, TO_RSDT, 40, TO_X
 static const uint8_t copy_short[36] = {RSD_PTR, 0xcb, [15] = 2, TO_RSDT, 35, TO_XSDT, 0xb9};
 static const uint8_t copy_other[36] = {'R', 'S', 'D', ' ', 'P', 'T', 'R', '_', 0xcd, TO_RSDT};
 static const uint8_t copy_no_text[36] = {RSD_PTR, 0xcd, 0xff, TO_RSDT};
+static const uint8_t copy_id[36] = {RSD_PTR, 0xce, 0xff, TO_RSDT};
 static const uint8_t copy_sum[36] = {RSD_PTR, 0xce, TO_RSDT};
 static const uint8_t copy_second_sum[36] = {RSD_PTR, 0xcb, [15] = 2, TO_RSDT, 36, TO_XSDT, 0xb9};
 
@@ -267,21 +268,52 @@ static const struct copy_row {
     {copy_sum, 36, ZACPI_RSDP_INVALID_CHECKSUM, 0, 0},
     {copy_second_sum, 36, ZACPI_RSDP_INVALID_CHECKSUM, 0, 0}};
 
-static void check_copy(const struct copy_row *row, const struct zacpi_region *regions, size_t length) {
-    struct zacpi_source source = {regions, length, 0x77, 9, 1};
+/* By leave a copy may end after 20 bytes, and its first 20 bytes may be all that counts. */
+static const struct {
+    uint32_t accept;
+    struct copy_row row;
+} accepted_copies[] = {
+    {ZACPI_ACCEPT_RSDP_IDS, {copy_id, 20, ZACPI_OK, 0x12345678, ZACPI_START_RSDT}},
+    {~ZACPI_ACCEPT_RSDP_IDS & 31, {copy_id, 20, ZACPI_RSDP_INVALID_OEM_ID, 0, 0}},
+    {31, {copy_no_text, 20, ZACPI_RSDP_INVALID_CHECKSUM, 0, 0}},
+    {31, {copy_other, 36, ZACPI_RSDP_INCORRECT_SIGNATURE, 0, 0}},
+    {31, {copy_sum, 36, ZACPI_RSDP_INVALID_CHECKSUM, 0, 0}},
+    {ZACPI_ACCEPT_RSDP_REVISION, {copy_1, 20, ZACPI_OK, 0x12345678, ZACPI_START_RSDT}},
+    {ZACPI_ACCEPT_RSDP_REVISION, {copy_1, 35, ZACPI_OK, 0x12345678, ZACPI_START_RSDT}},
+    {ZACPI_ACCEPT_RSDP_REVISION, {copy_1, 36, ZACPI_OK, 0x12345678, ZACPI_START_RSDT}},
+    {ZACPI_ACCEPT_RSDP_FIRST, {copy_1, 20, ZACPI_OK, 0x12345678, ZACPI_START_RSDT}},
+    {ZACPI_ACCEPT_RSDP_FIRST, {copy_1, 36, ZACPI_OK, 0x0102030405060708, ZACPI_START_XSDT}},
+    {31, {copy_1, 19, ZACPI_MAP_FAILED, 0, 0}},
+    {ZACPI_ACCEPT_RSDP_FIRST, {copy_2, 20, ZACPI_OK, 0x12345678, ZACPI_START_RSDT}},
+    {ZACPI_ACCEPT_RSDP_FIRST, {copy_2, 35, ZACPI_OK, 0x12345678, ZACPI_START_RSDT}},
+    {ZACPI_ACCEPT_RSDP_FIRST, {copy_2, 36, ZACPI_OK, 0x0102030405060708, ZACPI_START_XSDT}},
+    {~ZACPI_ACCEPT_RSDP_FIRST & 31, {copy_2, 20, ZACPI_MAP_FAILED, 0, 0}},
+    {31, {copy_2, 19, ZACPI_MAP_FAILED, 0, 0}},
+    {ZACPI_ACCEPT_RSDP_FIRST, {copy_long, 39, ZACPI_OK, 0x12345678, ZACPI_START_RSDT}}, /* a byte of Length is missing */
+    {ZACPI_ACCEPT_RSDP_FIRST, {copy_long, 40, ZACPI_OK, 0x0102030405060708, ZACPI_START_XSDT}},
+    {ZACPI_ACCEPT_RSDP_FIRST, {copy_short, 36, ZACPI_OK, 0x12345678, ZACPI_START_RSDT}},
+    {~ZACPI_ACCEPT_RSDP_FIRST & 31, {copy_short, 36, ZACPI_RSDP_INVALID_CHECKSUM, 0, 0}},
+    {ZACPI_ACCEPT_RSDP_FIRST, {copy_second_sum, 36, ZACPI_OK, 0x12345678, ZACPI_START_RSDT}},
+    {~ZACPI_ACCEPT_RSDP_FIRST & 31, {copy_second_sum, 36, ZACPI_RSDP_INVALID_CHECKSUM, 0, 0}}};
+
+static void check_copy(size_t n, uint32_t bits, const struct copy_row *row, const struct zacpi_region *regions,
+                       size_t length) {
+    struct zacpi_source source = {regions, length, 0x77, 9, bits};
     const zacpi_status got = zacpi_start_of_rsdp(row->bytes, row->length, &source);
     result(got == row->status && source.regions == regions && source.regions_length == length
            && source.address == (got ? 0x77 : row->address) && source.start == (got ? 9 : row->start)
-           && source.accept == 1, "start_of_rsdp", (int)(row - copies), length, got);
+           && source.accept == bits, "start_of_rsdp", (int)n, length, got);
 }
 
 static void check_bytes(void) {
     size_t i, room;
     for (i = 0; i < sizeof places / sizeof *places; i++) check_place(places + i);
     for (i = 0; i < sizeof copies / sizeof *copies; i++) {
-        check_copy(copies + i, REGIONS(placed));
-        check_copy(copies + i, NULL, 0);
+        check_copy(i, BOTH, copies + i, REGIONS(placed)); /* which are bits of tables */
+        check_copy(i, 0, copies + i, NULL, 0);
     }
+    for (i = 0; i < sizeof accepted_copies / sizeof *accepted_copies; i++)
+        check_copy(i, accepted_copies[i].accept, &accepted_copies[i].row, REGIONS(placed));
     for (i = 0; i < sizeof entry_rows / sizeof *entry_rows; i++)
         for (room = 0; room < entry_rows[i].count + 2; room++) check_entries(entry_rows + i, room);
 }

@@ -186,8 +186,8 @@ static const struct there_row {
     {REGIONS(laid), 3, TABLE(IN_OTHER), ZACPI_SDT_INVALID_SIGNATURE, "\377OEM", {0}},
     {REGIONS(laid), 0, TABLE(IN_LOST), ZACPI_MAP_FAILED, NULL, {0}}, /* a byte of its Length isn't lent */
     {REGIONS(laid), 0, TABLE(NOWHERE), ZACPI_MAP_FAILED, NULL, {0}},
-    {REGIONS(laid), 4, TABLE(IN_SUM), ZACPI_UNKNOWN_POLICY, NULL, {0}},
-    {REGIONS(placed_over), 4, TABLE(IN_APIC), ZACPI_REGIONS_NOT_ASCENDING, NULL, {0}},
+    {REGIONS(laid), 32, TABLE(IN_SUM), ZACPI_UNKNOWN_POLICY, NULL, {0}},
+    {REGIONS(placed_over), 32, TABLE(IN_APIC), ZACPI_REGIONS_NOT_ASCENDING, NULL, {0}},
     {REGIONS(placed_too_high), 0, TABLE(IN_APIC), ZACPI_REGION_TOO_HIGH, NULL, {0}},
     {NULL, 0, 0, TABLE(IN_APIC), ZACPI_MAP_FAILED, NULL, {0}},
     {laid, 1, 0, TABLE(IN_APIC), ZACPI_OK, NULL, {TABLE(IN_APIC), 66, LETTERS('A', 'P', 'I', 'C'), 0, NO_IDS}},
