@@ -194,7 +194,7 @@ int main(int argc, char **argv) {
     int agreed, taken;
     take_edge(&argc, argv);
     taken = start_of(argc, argv, &whole, &revision);
-    if (argc == 1) return !(maps_wanted() && maps_searches());
+    if (argc == 1) return !(maps_wanted() && maps_searches() && maps_accepted());
     if (!taken || argc != taken + 1) return wrong("IMAGE START N") + 2;
     image = contents(argv[1], &length);
     if (!image) return wrong("no such file") + 1;

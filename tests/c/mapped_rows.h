@@ -184,6 +184,11 @@ struct search {
     uint32_t found;  /* which RSDP */
     size_t searched; /* how many ranges the search requests, or 0 */
 };
+/* What the source accepts, and a byte of the first RSDP that isn't 0, at an offset: if that is a checksum's, the sum is
+ * wrong. */
+struct flaw {
+    uint32_t accept, at, value;
+};
 /* Of the RSDP Checksum is at 8, Revision at 15, RsdtAddress at 16, Length at 20 and Extended Checksum at 32 (section
  * 5.2.5.3). */
 static void put_rsdp(uint32_t address, uint32_t length) {
@@ -195,7 +200,7 @@ static void put_rsdp(uint32_t address, uint32_t length) {
     for (i = 0; i < 20; i++) rsdp[8] = (uint8_t)(rsdp[8] - (i == 8 ? 0 : rsdp[i]));
     for (i = 0; length > 20 && i < length; i++) rsdp[32] = (uint8_t)(rsdp[32] - (i == 32 ? 0 : rsdp[i]));
 }
-static void lay_out_search(const struct search *search) {
+static void lay_out_search(const struct search *search, const struct flaw *flaw) {
     uint32_t i;
     memset(bytes_of_machine, 0, sizeof bytes_of_machine);
     put(0x40e, search->word, 2);
@@ -204,6 +209,7 @@ static void lay_out_search(const struct search *search) {
         table(TABLES + 0x2000 * (i + 1), "OEM1", 40);
     }
     table(TABLES, "RSDT", 36 + 4 * search->tables);
+    put(search->rsdps[0][0] + flaw->at, flaw->value, 1);
     for (i = 0; i < 2; i++)
         if (search->rsdps[i][0]) put_rsdp(search->rsdps[i][0], search->rsdps[i][1]);
     for (i = 0, there_count = 0; i < 6; i++) {
@@ -218,18 +224,20 @@ static void lay_out_search(const struct search *search) {
     }
 }
 /* Whether the mapping leads to the row's RSDP, which the search over the whole memory finds too, and to all tables. */
-static int finds(const struct search *search) {
+static int finds(const struct search *search, const struct flaw *flaw) {
     const struct zacpi_mapper mapper = {&mapped, map_machine, unmap, search->page};
     struct zacpi_source source = {0}, whole = {0};
-    struct zacpi_root *const root = (struct zacpi_root *)painted_again(1, sizeof *root);
+    struct zacpi_root *const root = (struct zacpi_root *)painted_again(1, sizeof *root), *of_whole;
     size_t *const count = (size_t *)painted_again(2, sizeof *count);
     zacpi_status status, opened;
     int agreed;
-    lay_out_search(search);
+    lay_out_search(search, flaw);
     source.start = whole.start = search->start;
+    source.accept = whole.accept = flaw->accept;
     whole.regions = again_all_at_edge(there, there_count);
     whole.regions_length = there_count;
     whole = after_search(whole);
+    of_whole = (struct zacpi_root *)painted_again(0, sizeof *of_whole);
     unit = search->page;
     are_kept = 0;
     is_searching = 1;
@@ -237,7 +245,8 @@ static int finds(const struct search *search) {
     status = zacpi_map_tables(&mapper, &source, regions, search->capacity, ranges, search->room);
     if (status || search->status) return forget(), status == search->status && !source.regions_length;
     opened = zacpi_open(&source, root, NULL);
-    agreed = opened == search->opened && opened == zacpi_open(&whole, root, NULL);
+    agreed = opened == search->opened && opened == zacpi_open(&whole, of_whole, NULL);
+    agreed &= source.accept == flaw->accept && !memcmp(root, of_whole, sizeof *root);
     agreed &= source.start == whole.start && source.address == whole.address;
     if (!opened) agreed &= source.start == ZACPI_START_RSDP && source.address == search->found;
     if (search->searched) agreed &= searched == search->searched;
@@ -303,9 +312,53 @@ static int maps_searches(void) {
         {ALL & ~WITH_LOWER, BIOS, 0x9f00, {{0xf59e0, 20}}, 2, 10, 8, 0x1000, 0, UNMAPPED, 0, 0},
     };
     /* clang-format on */
+    static const struct flaw none = {0, 0, 0};
     size_t i;
     for (i = 0; i < sizeof searches / sizeof *searches; i++)
-        if (!finds(&searches[i])) return fprintf(stderr, "at search %lu\n", (unsigned long)i), 0;
+        if (!finds(&searches[i], &none)) return fprintf(stderr, "at search %lu\n", (unsigned long)i), 0;
     return printf("%lu searches\n", (unsigned long)i), 1;
+}
+
+/* Searches of RSDPs with an error, OEMID at 9, Revision at 15, or Extended Checksum at 32, that the source accepts or
+ * not. */
+static int maps_accepted(void) {
+    enum {
+        SEARCH = ZACPI_START_SEARCH,
+        BIOS = ZACPI_START_BIOS_SEARCH,
+        IDS = ZACPI_ACCEPT_RSDP_IDS,
+        REVISION = ZACPI_ACCEPT_RSDP_REVISION,
+        FIRST = ZACPI_ACCEPT_RSDP_FIRST,
+        EACH_BIT = 31,
+        NOT_FOUND = ZACPI_NO_VALID_RSDP
+    };
+    /* clang-format off */
+    static const struct {
+        struct flaw flaw;
+        struct search search;
+    } all[] = {
+        {{0, 9, 0xff}, {ALL, SEARCH, 0x9f00, {{0xf59e0, 36}}, 2, 10, 8, 0x1000, 0, NOT_FOUND, 0, 0}},
+        {{EACH_BIT & ~IDS, 9, 0xff}, {ALL, BIOS, 0x9f00, {{0xf59e0, 36}}, 2, 10, 8, 0x1000, 0, NOT_FOUND, 0, 0}},
+        {{IDS, 9, 0xff}, {ALL, SEARCH, 0x9f00, {{0xf59e0, 36}}, 2, 10, 8, 0x1000, 0, 0, 0xf59e0, 0}},
+        {{IDS, 9, 0xff}, {ALL, BIOS, 0x9f00, {{0xf59e0, 20}}, 2, 10, 8, 1, 0, 0, 0xf59e0, 0}},
+        {{0, 15, 1}, {ALL, SEARCH, 0x9f00, {{0xf59e0, 20}}, 2, 10, 8, 0x1000, 0, NOT_FOUND, 0, 0}},
+        {{REVISION, 15, 1}, {ALL, SEARCH, 0x9f00, {{0xf59e0, 20}}, 2, 10, 8, 1, 0, 0, 0xf59e0, 0}},
+        {{REVISION, 15, 1}, {ALL, BIOS, 0x9f00, {{0x9f020, 20}}, 2, 10, 8, 0x1000, 0, 0, 0x9f020, 0}},
+        {{EACH_BIT & ~FIRST, 32, 1}, {ALL, SEARCH, 0x9f00, {{0xf59e0, 36}}, 2, 10, 8, 0x1000, 0, NOT_FOUND, 0, 0}},
+        {{FIRST, 32, 1}, {ALL, SEARCH, 0x9f00, {{0xf59e0, 36}}, 2, 10, 8, 1, 0, 0, 0xf59e0, 0}},
+        {{FIRST, 32, 1}, {ALL, BIOS, 0x9f00, {{0xf59e0, 36}}, 2, 10, 8, 0x1000, 0, 0, 0xf59e0, 0}},
+        /* The first that is accepted counts; bytes of a Length that are there are mapped before they count as missing,
+         * and those that aren't take a range. */
+        {{FIRST, 32, 1}, {USUAL, SEARCH, 0x9fc0, {{0x9fc20, 36}, {0xf59e0, 20}}, 2, 10, 8, 1, 0, 0, 0x9fc20, 0}},
+        {{IDS, 32, 1}, {USUAL, SEARCH, 0x9fc0, {{0x9fc20, 36}, {0xf59e0, 20}}, 2, 10, 8, 1, 0, 0, 0xf59e0, 0}},
+        {{FIRST, 0, 0}, {USUAL, SEARCH, 0x9f00, {{0x9f3d0, 0x100}}, 2, 10, 1, 1, 0, 0, 0x9f3d0, 0}},
+        {{FIRST, 32, 1}, {USUAL, SEARCH, 0x9f00, {{0x9f3d0, 0x100}}, 2, 10, 1, 1, 0, 0, 0x9f3d0, 0}},
+        {{FIRST, 0, 0}, {USUAL, SEARCH, 0x9f00, {{0x9f3e0, 0x1000}}, 2, 10, 3, 1, 0, 0, 0x9f3e0, 0}},
+        {{32, 0, 0}, {USUAL, SEARCH, 0x9fc0, {{0xf59e0, 20}}, 2, 10, 8, 1, ZACPI_UNKNOWN_POLICY, 0, 0, 0}},
+    };
+    /* clang-format on */
+    size_t i;
+    for (i = 0; i < sizeof all / sizeof *all; i++)
+        if (!finds(&all[i].search, &all[i].flaw)) return fprintf(stderr, "at RSDP %lu\n", (unsigned long)i), 0;
+    return printf("%lu RSDPs\n", (unsigned long)i), 1;
 }
 #endif
