@@ -298,11 +298,11 @@ enum zacpi_accept {
     ZACPI_ACCEPT_SUMS = 1,     /* ZACPI_SDT_INVALID_CHECKSUM */
     ZACPI_ACCEPT_IDS = 2,      /* ZACPI_SDT_INVALID_OEM_ID and ZACPI_SDT_INVALID_TABLE_ID */
     ZACPI_ACCEPT_RSDP_IDS = 4, /* ZACPI_RSDP_INVALID_OEM_ID */
-    /* An RSDP of Revision 1, which no specification has, is read as one of Revision 0: by its first
-     * 20 bytes, which point to the RSDT. */
+    /* An RSDP of Revision 1, which no specification defines, is read as one of Revision 0: by its
+     * first 20 bytes, which point to the RSDT. */
     ZACPI_ACCEPT_RSDP_REVISION = 8,
-    /* An RSDP is read in this way too if only its first 20 bytes pass their checks: Length is below
-     * 36, or its bytes by Length aren't mapped or don't sum to 0. */
+    /* So is an RSDP whose first 20 bytes pass their checks while the others fail: Length is below 36,
+     * or that many bytes aren't mapped or don't sum to 0. */
     ZACPI_ACCEPT_RSDP_FIRST = 16
 };
 
