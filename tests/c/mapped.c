@@ -207,6 +207,7 @@ int main(int argc, char **argv) {
         changed = i ? 1 + below(4) : 0;
         damage(places, was, changed);
         unit = i % 2 ? 64 : PAGE;
+        whole.accept = i % 3 ? 0 : (uint32_t)below(8) * ZACPI_ACCEPT_RSDP_IDS; /* the bits of RSDPs */
         without(MOST, 0, 0);
         if (i % 4 > 1) {
             /* A search's areas are mapped by pages of at least 4 KiB. */
