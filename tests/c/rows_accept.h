@@ -91,7 +91,7 @@ static const struct {
     {0, NOTHING(list_missing_ranges, LED_BY_IDS)}, {SUMS, NOTHING(list_missing_ranges, LED_BY_IDS)},
     {IDS, GOOD(list_missing_ranges, LED_BY_IDS, NULL, NO, 1, AT(MADT_LOST), SIZE)},
 
-    /* A root table is accepted as what it lists is, and an RSDP isn't. */
+    /* A root table is accepted as what it lists is, and an RSDP isn't by these bits. */
     {SUMS, GOOD(open, SUM, NULL, NO, 1, AT(SUM), 56, 0, 4, 0, 0)},
     {BOTH, GOOD(open, RSDP_TO_SUM, NULL, NO, 1, AT(SUM), 56, 0, 4, AT(RSDP_TO_SUM), 20)},
     {IDS, REFUSED(open, RSDP_TO_SUM, NULL, NO, ZACPI_SDT_INVALID_CHECKSUM, "RSDT")},
