@@ -101,7 +101,7 @@ static struct zacpi_source source_of(int machine) {
 
 /* A source with its regions at the edge. Their bytes stay as they are, so of each list there is one copy. */
 static struct zacpi_source source_at_edge(struct zacpi_source source) {
-    static struct { const struct zacpi_region *given, *copied; } all[64];
+    static struct { const struct zacpi_region *given, *copied; } all[128];
     size_t i = 0;
     if (!source.regions) return source;
     while (all[i].given && all[i].given != source.regions) i++;

@@ -1,9 +1,9 @@
 /* Sweeps over tables laid out by hand: each table's memory as two regions that touch, cut at each place, and each byte
  * of a table but its Length changed to each other value, the ids also with a sum that is right or accepted. No lookup
  * may take such a table: that by its signature and that of its own type refuse, nothing is written but the signature,
- * and the list of faults has why it is passed over. Prints those that fail, and how many memories were tried. The
- * status is 0 if all hold. With `end` or `begin` each region and each output is at a page that can't be touched
- * (edges.h).
+ * and the list of faults has why it is passed over. And each byte of RSDPs changed to each other value, by what is
+ * accepted of them. Prints those that fail, and how many memories were tried. The status is 0 if all hold. With `end` or
+ * `begin` each region and each output is at a page that can't be touched (edges.h).
  * cc -std=c99 -Iinclude tests/c/sweeps.c ARCHIVE */
 #define _DEFAULT_SOURCE
 #include "edges.h"
@@ -224,6 +224,89 @@ static void sweep_ids(const struct swept *table, uint32_t accept) {
     }
 }
 
+/* ---- RSDPs -------------------------------------------------------------------------------------------- */
+
+/* Of Revision 0, 1 and 2, at 15, and of 40 bytes, by Length, at 20 (section 5.2.5.3). RsdtAddress, at 16, and
+ * XsdtAddress, at 24, are those of the two root tables. */
+enum { RSDP_SIZE = 40, RSDP_CHECKSUM = 8, EXTENDED_CHECKSUM = 32 };
+#define RSDP(revision, length) \
+    { 'R', 'S', 'D', ' ', 'P', 'T', 'R', ' ', [15] = revision, 0, 0x20, [20] = length, [25] = 0x30, [36] = 1, 2, 3, 4 }
+static const uint8_t rsdps[][RSDP_SIZE] = {RSDP(0, 0), RSDP(1, 36), RSDP(2, 36), RSDP(2, 40)};
+static uint8_t two_roots[2][36] = {{'R', 'S', 'D', 'T', 36, [9] = 0x9f}, {'X', 'S', 'D', 'T', 36, [9] = 0x99}};
+
+/* What a changed RSDP is by the header, where as many bytes are mapped, and whether only its first 20 bytes count. Of an
+ * OEMID no other byte is above 0x7f, so it isn't UTF-8 with one. */
+static zacpi_status status_of_rsdp(const uint8_t *bytes, uint32_t accept, int *is_first) {
+    const uint64_t length = bytes[20] | bytes[21] << 8 | bytes[22] << 16 | (uint64_t)bytes[23] << 24;
+    zacpi_status rest = ZACPI_OK;
+    size_t i;
+    if (memcmp(bytes, "RSD PTR ", 8)) return ZACPI_RSDP_INCORRECT_SIGNATURE;
+    for (i = 9; i < 15; i++)
+        if (bytes[i] > 0x7f && !(accept & ZACPI_ACCEPT_RSDP_IDS)) return ZACPI_RSDP_INVALID_OEM_ID;
+    if (zacpi_byte_sum(bytes, 20)) return ZACPI_RSDP_INVALID_CHECKSUM;
+    *is_first = 1;
+    if (!bytes[15] || (bytes[15] == 1 && accept & ZACPI_ACCEPT_RSDP_REVISION)) return ZACPI_OK;
+    if (length > RSDP_SIZE) rest = ZACPI_MAP_FAILED;
+    else if (length < 36 || zacpi_byte_sum(bytes, (size_t)length)) rest = ZACPI_RSDP_INVALID_CHECKSUM;
+    *is_first = rest != ZACPI_OK;
+    return accept & ZACPI_ACCEPT_RSDP_FIRST ? (zacpi_status)ZACPI_OK : rest;
+}
+
+/* Whether each call takes it so: by its address, and a copy of it. */
+static int is_read_so(const struct zacpi_source *source, const uint8_t *bytes) {
+    struct zacpi_source copied = *source;
+    struct zacpi_rsdp *const rsdp = (struct zacpi_rsdp *)paint(sizeof *rsdp);
+    struct zacpi_root root = {0, 0, 0, 0, {0, 0}, 0, 0, {0, 0, 0, 0}};
+    int is_first = 0;
+    zacpi_status wanted = status_of_rsdp(bytes, source->accept, &is_first);
+    if (zacpi_get_rsdp(source, rsdp, named) != wanted) return 0;
+    if (zacpi_start_of_rsdp(bytes, RSDP_SIZE, &copied) != wanted) return 0;
+    if (wanted) return are_painted(out, out_size) && zacpi_open(source, &root, NULL) == wanted;
+    if (rsdp->revision != (is_first ? 0 : bytes[15]) || (rsdp->length == 20) != is_first) return 0;
+    if (is_first && rsdp->xsdt_address) return 0;
+    if (copied.start != (uint32_t)(rsdp->xsdt_address ? ZACPI_START_XSDT : ZACPI_START_RSDT)) return 0;
+    if (copied.address != (rsdp->xsdt_address ? rsdp->xsdt_address : rsdp->rsdt_address)) return 0;
+    wanted = zacpi_open(source, &root, NULL);
+    if (copied.address != (rsdp->xsdt_address ? 0x3000 : 0x2000)) return wanted != ZACPI_OK;
+    return !wanted && root.address == copied.address && root.rsdp_length == rsdp->length;
+}
+
+/* An RSDP with another value in one byte, where both sums are made right after that, or neither is. */
+static void sweep_rsdp(const uint8_t *given, uint32_t accept, int is_summed) {
+    uint8_t *const bytes = (uint8_t *)at_edge(given, RSDP_SIZE);
+    const struct zacpi_region memory[] = {
+        {0x1000, bytes, RSDP_SIZE}, {0x2000, two_roots[0], 36}, {0x3000, two_roots[1], 36}};
+    const struct zacpi_source source = {memory, 3, 0x1000, ZACPI_START_RSDP, accept};
+    const size_t length = given[20] ? given[20] : 36;
+    size_t offset;
+    unsigned bits;
+    for (offset = 0; offset < RSDP_SIZE; offset++)
+        for (bits = 0; bits < 256; bits++) {
+            memcpy(bytes, given, RSDP_SIZE);
+            bytes[RSDP_CHECKSUM] = (uint8_t)-zacpi_byte_sum(bytes, 20);
+            bytes[EXTENDED_CHECKSUM] = (uint8_t)-zacpi_byte_sum(bytes, length);
+            bytes[offset] ^= (uint8_t)bits;
+            if (is_summed) bytes[RSDP_CHECKSUM] = (uint8_t)(bytes[RSDP_CHECKSUM] - zacpi_byte_sum(bytes, 20));
+            if (is_summed)
+                bytes[EXTENDED_CHECKSUM] = (uint8_t)(bytes[EXTENDED_CHECKSUM] - zacpi_byte_sum(bytes, length));
+            tried++;
+            if (is_read_so(&source, bytes)) continue;
+            failed++;
+            printf("FAILED: an RSDP of Revision %u, %lu bytes, accept %lu, byte %lu, %u\n", given[15],
+                   (unsigned long)length, (unsigned long)accept, (unsigned long)offset, bytes[offset]);
+        }
+}
+static void sweep_rsdps(void) {
+    static const uint32_t accepted[] = {0, ZACPI_ACCEPT_RSDP_IDS, ZACPI_ACCEPT_RSDP_REVISION, ZACPI_ACCEPT_RSDP_FIRST,
+                                        31};
+    size_t i, k;
+    for (i = 0; i < sizeof rsdps / sizeof *rsdps; i++)
+        for (k = 0; k < sizeof accepted / sizeof *accepted; k++) {
+            sweep_rsdp(rsdps[i], accepted[k], 0);
+            sweep_rsdp(rsdps[i], accepted[k], 1);
+        }
+}
+
 int main(int argc, char **argv) {
     const struct swept *table = tables;
     if (!edge_of(argc, argv)) return 2;
@@ -234,6 +317,7 @@ int main(int argc, char **argv) {
         sweep_ids(table, 0);
         sweep_ids(table, ZACPI_ACCEPT_SUMS);
     }
+    sweep_rsdps();
     printf("%lu memories\n", tried);
     return failed ? 1 : 0;
 }
