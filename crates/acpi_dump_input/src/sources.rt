@@ -163,6 +163,6 @@ pub fn reason_of(error: &io::Error) -> &'static str {
         ErrorKind::BrokenPipe => "no one reads it any more",
         ErrorKind::InvalidFilename => "the name is too long, or not valid UTF-8",
         ErrorKind::InvalidInput => "not a name of a file",
-        _ => "it can't be read",
+        _ => "it can't be read or written",
     }
 }
