@@ -9,7 +9,7 @@
 #   make acpi_dump          out/acpi_dump, acpi_view and acpi_pack, the programs, by cargo, for TARGET if one is named
 #   make stick              out/stick.img, which shows and saves a machine's tables without an operating system, by
 #                           clang, lld, mtools and python3 (docs/TESTING.md)
-#   make regenerate         out/zacpi.c, of the Rust package, by rustc and LLVM (scripts/regenerate)
+#   make regenerate         dist/ anew, of the Rust package, by rustc and LLVM (scripts/dist)
 #   make docs               out/site, the documents, calls by question, Rust items and manual pages, with a search
 #   make install-programs   these, or the programs in $(PROGRAMS), with their manual pages and completions
 #   make uninstall          removes what both have installed
@@ -67,7 +67,7 @@ stick:
 	examples/stick/image $(OUT)/stick $(OUT)/stick.img
 
 regenerate:
-	scripts/regenerate $(OUT)/zacpi.c
+	scripts/dist
 
 docs:
 	scripts/site $(OUT)/site

@@ -1,2 +1,2 @@
 # SPDX-License-Identifier: MIT
-"""What scripts/regenerate changes in the module that rustc makes, before and after LLVM's passes."""
+"""What scripts/dist changes in the module that rustc makes, before and after LLVM's passes."""

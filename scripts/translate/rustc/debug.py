@@ -1,5 +1,5 @@
 # SPDX-License-Identifier: MIT
-"""The debug information of a module that rustc made, as LLVM writes it in text, for scripts/regenerate: of
+"""The debug information of a module that rustc made, as LLVM writes it in text, for scripts/dist: of
 functions their names in the sources of the proved crates, of instructions their lines, and of variables and types their
 names."""
 import re

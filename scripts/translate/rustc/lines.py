@@ -1,5 +1,5 @@
 # SPDX-License-Identifier: MIT
-"""scripts/translate/rustc/lines.py ZACPI.c SOURCES TO.c: for scripts/regenerate --lines, the file with `#line`
+"""scripts/translate/rustc/lines.py ZACPI.c SOURCES TO.c: for scripts/dist --lines, the file with `#line`
 before each line of C that a comment has the place of in the Rust package, so that a debugger shows that and stops
 there. SOURCES is how its folder `src` is named to a debugger."""
 import re

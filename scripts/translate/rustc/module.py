@@ -1,13 +1,12 @@
 # SPDX-License-Identifier: MIT
-"""scripts/translate/rustc/module.py MODULE.ll TO.ll: for scripts/regenerate, changes the module that rustc made of
+"""scripts/translate/rustc/module.py MODULE.ll TO.ll: for scripts/dist, changes the module that rustc made of
 the Rust package before LLVM's passes.
 
 - core's functions that end a program in a panic do nothing: no call of theirs is reached, which Rattle proves of
   the same text. They are those of PANICS, and each is printed with the number of its calls. Another function that isn't
   defined, and isn't among NEEDED, is an error.
 - Each function returns, which Rattle proves too: a call of one whose result nobody needs can go.
-- Functions have the names of the sources. Those of MARKED are made a part of their callers, or not, as
-  scripts/dist has it; each pattern has to match.
+- Functions have the names of the sources, and are made a part of their callers, or not, as translator/names.py has it.
 - Whether there are vectors is left to whoever compiles the C."""
 import re
 import sys
@@ -16,6 +15,7 @@ from pathlib import Path
 sys.dont_write_bytecode = True
 sys.path.insert(0, str(Path(__file__).resolve().parents[2]))
 from translate.rustc.debug import GLOBAL, Debug, named_functions
+from translate.translator.names import marked
 
 # By the end of their mangled names.
 PANICS = {'9panicking5panic': 'panic', '9panicking9panic_fmt': 'panic_fmt',
@@ -24,11 +24,6 @@ PANICS = {'9panicking5panic': 'panic', '9panicking9panic_fmt': 'panic_fmt',
 # What is linked from core itself, and what stays behind where nothing unwinds.
 NEEDED = ['3str8converts9from_utf8']
 UNUSED = ['rust_eh_personality']
-# What functions are marked as: a part of each caller, none of any (which scripts/translate/ir2c then decides), or
-# small. An entry of a MADT goes into its walks.
-MARKED = {r'acpi_c_lib\.opening\.find_rsdp': 'alwaysinline', r'acpi_bytes\.bytes\.is_other_text': 'optsize',
-          r'acpi\.rsdp\.Rsdp\.summed_length': 'noinline',
-          r'acpi_base\.tables\.madt\.entry\.MadtEntry\.read': 'alwaysinline'}
 VECTORS = r'acpi_bytes\.sum\.has_vectors'
 
 
@@ -52,15 +47,6 @@ def without_panics(text):
         missing = set(PANICS.values()) - set(calls)
         sys.exit(f'rustc/module.py: these panics are in its table and not in the module: {missing}')
     return text, calls
-
-
-def marked(text):
-    """The module whose functions have the marks of MARKED."""
-    for pattern, mark in MARKED.items():
-        text, count = re.subn(rf'(?m)^(define .*@{pattern}\(.*?)( #\d+)', rf'\1 {mark}\2', text)
-        if count != 1:
-            sys.exit(f'rustc/module.py: {count} functions have a name as {pattern}')
-    return text
 
 
 def returning(text):

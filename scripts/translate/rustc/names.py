@@ -1,5 +1,5 @@
 # SPDX-License-Identifier: MIT
-"""scripts/translate/rustc/names.py MODULE.ll SOURCES TO.ll: for scripts/regenerate, what LLVM's passes leave of
+"""scripts/translate/rustc/names.py MODULE.ll SOURCES TO.ll: for scripts/dist, what LLVM's passes leave of
 the Rust package's module without its debug information, but with what that tells a reader. Registers have the names of
 the source's variables; notes, which scripts/translate/ir2c makes comments of, have each function's documentation, the
 line of the source that an instruction is of, and the member that a store writes. SOURCES is the package's folder
@@ -302,10 +302,6 @@ def passed_kinds(debug, types, head, body):
     return name, [result if is_result else kinds.get(one) for one, is_result in arguments]
 
 
-ABOUT = [';! The library for C, which scripts/regenerate made of the Rust package bindings/rust, by way of LLVM. That',
-         ';! is its source, the preferred form for a change; crates/ has the same, where it is proved: see docs/PROVED.md.']
-
-
 def data_names(text, debug):
     """The names of constants: those that the source has, or else what they are, and a number."""
     names = {}
@@ -322,7 +318,7 @@ def main():
     text = Path(module).read_text(encoding='utf-8')
     debug, sources = Debug(text), Sources(folder)
     types = Types(debug)
-    lines, functions, made = iter(text.split('\n')), [], list(ABOUT)
+    lines, functions, made = iter(text.split('\n')), [], []
     for line in lines:
         if line.startswith('define'):
             functions.append((line, list(iter(lambda: next(lines), '}'))))

@@ -6,8 +6,12 @@ from typing import NamedTuple
 
 from .expressions import Expressions, named, remark
 from .names import said_of
+from .structure import structured
 from .text import LABEL, bare, c_type, constant, fail, typed
 from .values import negated
+
+
+PLACES = [False]  # whether comments have the place of each line of the source
 
 
 class Label(NamedTuple):
@@ -17,6 +21,10 @@ class Label(NamedTuple):
 class Begin(NamedTuple):
     """Where the code of a block begins: at its label, but inside of the loop that begins with it."""
     block: str
+
+
+class Before(Begin):
+    """As Begin, of a loop that asks before its first line."""
 
 
 def ends(lines):
@@ -42,6 +50,8 @@ class Body(Expressions):
         for block in self.phis:
             for name, kind, _ in self.phis[block]:
                 self.top[self.function.word(name)] = c_type(kind)
+        lines, self.wanted, self.copies = structured(self.function, lines, Label, self.label, set(self.flow.loops), Before,
+                                                       self.top, c_type(self.function.result))
         return lines
 
     def tree(self, block, out, follow, around):
@@ -83,7 +93,17 @@ class Body(Expressions):
         source = getattr(line, 'source', '')
         if source and source != self.shown and len(out) > begin:
             self.shown = source
-            out.insert(begin, f'/* {source} */')
+            text = self.shown_source(source)
+            if text:
+                out.insert(begin, f'/* {text} */')
+
+    def shown_source(self, source):
+        """A line of the source, with its file if that isn't the function's; with its number too for a debugger."""
+        if PLACES[0]:
+            return source
+        file, _, text = re.match(r'(\S+):(\d+)(?:: (.*))?$', source).groups()
+        own = self.function.comment and self.function.comment[0].startswith(f'{file}:')
+        return text and (text if own else f'{file.split("/")[-1]}: {text}')
 
     def end(self, block, line, out, follow, around):
         operation, _, rest = line.partition(' ')
@@ -160,10 +180,10 @@ class Body(Expressions):
             out.append(f'goto {self.label(way)};')
 
     def label(self, block):
-        """By the line of the source that it leads to, if the module has notes of that, or else LLVM's name."""
+        """By the file of the source that it leads to, if the module has notes of that, or else LLVM's name."""
         notes = (getattr(line, 'source', '') for line in self.function.blocks[block])
-        place = next(filter(None, (re.match(r'(?:\w+/)*(\w+)\.rs:(\d+)', note) for note in notes)), None)
-        led = f'{place[1]}_{place[2]}' if place else block.split('.')[0]
+        place = next(filter(None, (re.match(r'(?:\w+/)*(\w+)\.rs:', note) for note in notes)), None)
+        led = place[1] if place else block.split('.')[0]
         return self.function.word(f'to_{led}.{block}')
 
     def assign(self, block, way, out):

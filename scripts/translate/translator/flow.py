@@ -116,15 +116,7 @@ class Function:
         self.flow = Flow(name, self.blocks)
         self.blocks = {block: self.blocks[block] for block in self.flow.order}
         self.words, self.taken, self.copies, self.calls = {}, set(RESERVED), {}, []
-        # Which callers the function is made a part of, None if of none, and whether others call it.
-        self.inlined_in, self.has_apart = None, False
-
-    def name_for(self, caller):
-        """The function's name in C where a function of that name in LLVM calls it."""
-        if self.inlined_in is None or re.match(self.inlined_in, caller):
-            return self.c_name
-        self.has_apart = True
-        return self.c_name + '_apart'
+        self.is_inlined = False  # whether compilers make it a part of its callers
 
     def word(self, name):
         """The variable of a register: LLVM's name as far as it is the source's, and a number if that is taken."""

@@ -10,6 +10,11 @@
  * rarely run into .text.unlikely. A call isn't made a part of its caller in one unit with this file: what it returned is
  * then a number to the compiler, which warns that it may not be set. */
 #if defined(__GNUC__)
+#pragma GCC diagnostic push
+#pragma GCC diagnostic ignored "-Wdeclaration-after-statement"
+#if !defined(__clang__) /* A record is copied as a whole, also where a part of it has no value. */
+#pragma GCC diagnostic ignored "-Wmaybe-uninitialized"
+#endif
 #define memcpy __builtin_memcpy
 #define memmove __builtin_memmove
 #define memset __builtin_memset
@@ -30,8 +35,6 @@
 #else
 #define UNREACHABLE() __builtin_trap()
 #endif
-#pragma GCC diagnostic push
-#pragma GCC diagnostic ignored "-Wdeclaration-after-statement"
 #else
 #include <string.h>
 #undef memcpy

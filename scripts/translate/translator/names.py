@@ -1,33 +1,51 @@
-#!/usr/bin/env python3
 # SPDX-License-Identifier: MIT
-"""What scripts/dist and scripts/translate/ir2c know of functions by name. names.py MODULE.ll prints the module
-with what NAMES says to LLVM's passes. Each row has to match a function, here or in scripts/translate/ir2c: a name that
+"""What LLVM's passes and compilers of the C are told of functions by name. Each row has to match a function: a name that
 is gone is an error."""
 import re
 import sys
-from pathlib import Path
 
-# What is said, to what functions, by their whole names in LLVM. To LLVM's passes:
-# - noinline, alwaysinline, optsize, as they are there;
-# - either, one whose result LLVM can't know.
+# Small functions stay functions, so that a reader meets each rule once (scripts/dist names LLVM's limit), but for what is
+# told here, to what functions, by their whole names. To LLVM's passes:
+# - always, a part of each caller: it is called at one place of each, or its result goes through memory otherwise;
+# - hot, what is rather a part of its callers: the paths of the calls that docs/SPEED.md counts;
+# - apart, a function of its own: it is in each call, and is rarely come to, or is long;
+# - small, made short rather than fast.
 # To compilers of the C:
-# - cold, what is made small rather than fast: what a machine needs once, and what only errors need;
-# - inlined, what is made a part of its callers, or of those that the row names; others call a copy that is apart;
+# - cold, made small rather than fast: what a machine needs once, and what only errors need;
+# - inlined, made a part of its callers;
 # - started, what chooses by a source's start: there ZACPI_NO_SEARCH makes those of searches unknown ones.
 NAMES = [
-    # acpi_bytes proves its sum of bytes for either answer. Here that is one of whoever compiles the C.
-    ('either', r'acpi_bytes\.sum\.has_vectors'),
-    ('noinline', r'acpi_bytes\.sum\.byte_sum'),
-    # Each call but one looks an RSDP up at one place.
-    ('alwaysinline', r'acpi_c_lib\.opening\.find_rsdp'),
+    ('always', r'acpi_c_lib\.opening\.find_rsdp'),
+    ('always', r'acpi\.rsdp\.(?:map_rsdp|check_mapped)'),
+    ('always', r'acpi_base\.tables\.madt\.entry\.MadtEntry\.read'),
+
+    # Opening tables, and finding one.
+    ('hot', r'acpi\.rsdp\.(?:map_accepted_rsdp|check_whole|read_accepted)'),
+    ('hot', r'acpi_base\.memory\.claim\.Claim\.(?:request|widen)'),
+    ('hot', r'acpi_base\.memory\.mapping\.PhysicalMapping\.map'),
+    ('hot', r'acpi_bytes\.header\.SdtHeader\.validate_ids'),
+    ('hot', r'acpi_c_lib\.opening\.(?:find_fadt|first|open)'),
+    ('hot', r'acpi_c_lib\.regions\.(?:spot|rest_at)'),
+    # What calls return.
+    ('hot', r'acpi_c_lib\.(?:answer\.answer|tables\.aml_at|lists\.fill(?:_from|_part)?)'),
+    ('hot', r'acpi_bytes\.codes\..*try_from'),
+    ('hot', r'acpi_c_devices\.devices\.hpet_shown'),
+    ('hot', r'acpi_c_interrupts\.apics\.(?:processor_in|.*said)'),
+    ('hot', r'acpi_c_interrupts\.routes\.wirings\.Wirings\.isa'),
+    # How long a field is, which is known of most.
+    ('hot', r'acpi_table_writer\.(?:fields|spelled)\..*measure'),
+
+    # What a call returns for an error, and whether regions are in order.
+    ('apart', r'acpi_c_lib\.(?:refusal\.Refusal\.code|answer\.name|regions\.check)'),
+    ('apart', r'acpi\.rsdp\.Rsdp\.summed_length'),
     # A text that isn't ASCII is rare: its loops aren't unrolled.
-    ('optsize', r'acpi_bytes\.bytes\.is_other_text'),
+    ('small', r'acpi_bytes\.bytes\.is_other_text'),
 
     ('cold', r'acpi\.platform\.timer\..*'),
     ('cold', r'acpi\.rsdp\.(?:bios\.|Rsdp\.search_).*'),
     ('cold', r'acpi_bytes\.bytes\.(?:is_other_text|rest_of)\b.*'),
     ('cold', r'acpi_c_lib\.faults\..*'),
-    ('cold', r'acpi_c_lib\.refusal\..*'),
+    ('cold', r'acpi_c_lib\.(?:refusal\.|answer\.name).*'),
     ('cold', r'acpi_c_devices\.(?:devices\.optional_register|fixed\.|power\.).*'),
     ('cold', r'acpi_sleep\..*'),
     ('cold', r'acpi_(?:table_)?writer\..*'),
@@ -39,55 +57,38 @@ NAMES = [
 
     # Each call looks tables up by these.
     ('inlined', r'acpi\.rsdp\.Rsdp\.summed_length'),
-    ('inlined', r'acpi\.rsdp\.check_mapped', r'acpi_c_lib\.opening\.root_pointer'),
     ('inlined', r'acpi\.tables\.AcpiTables\.own_sdt_at'),
     ('inlined', r'acpi_bytes\.header\.SdtHeader\.table_length'),
-    ('inlined', r'acpi_base\.table\.lookup\.claim_by', r'acpi\.tables\.AcpiTables\.own_sdt_at'),
+    ('inlined', r'acpi_base\.table\.lookup\.claim_by'),
     ('inlined', r'acpi_c_lib\.opening\.root_pointer'),
 
     ('started', r'acpi_c_lib\.opening\.root_pointer'),
-    ('started', r'zacpi_\d+_get_rsdp'),
 ]
-TO_PASSES = 'either', 'noinline', 'alwaysinline', 'optsize'
-DEFINED = re.compile(r'^define .*?@([\w.]+)\(.* \{$', re.M)
+TO_PASSES = {'always': 'alwaysinline', 'hot': 'inlinehint', 'apart': 'noinline', 'small': 'optsize'}
 
 
-def rows(*said):
-    return [row for row in NAMES if row[0] in said]
+def path_of(name):
+    """A function's name without the numbers of one of several copies."""
+    return re.sub(r'(?:\.\d+)+$', '', name)
 
 
 def said_of(name, what):
-    """The row that says this of a function, or None."""
-    return next((row for row in rows(what) if re.fullmatch(row[1], name)), None)
+    """Whether a function is told this."""
+    return any(said == what and re.fullmatch(pattern, path_of(name)) for said, pattern in NAMES)
 
 
-def matching(names, *said):
-    """Stops unless each row that says this is about a function of these names."""
-    for row in rows(*said):
-        if not any(re.fullmatch(row[1], name) for name in names):
-            sys.exit(f'no function has a name as {row[1]}, of which names.py says {row[0]}')
+def matching(names, *told):
+    """Stops unless each row that tells one of these is about a function of these names."""
+    for what, pattern in NAMES:
+        if what in told and not any(re.fullmatch(pattern, path_of(name)) for name in names):
+            sys.exit(f'no function has a name as {pattern}, of which names.py says {what}')
 
 
-def told(function):
-    """The text of a function with what is said of it: before its group of attributes, or in its place."""
-    name = DEFINED.match(function)[1]
-    head, _, body = function.partition('\n')
-    if said_of(name, 'either'):
-        head = re.sub(r'^define internal (.*\)).* \{$', r'declare \1 nounwind willreturn memory(none)', head)
-        return head + '\n' if head.startswith('declare') else sys.exit(f'{name} is not internal')
-    for said in ('noinline', 'alwaysinline', 'optsize'):
-        if said_of(name, said):
-            head = re.sub(r' #(\d+) \{$', rf' {said} #\1 {{', head)
-    return f'{head}\n{body}'
+def marked(module):
+    """The text of a module with what LLVM's passes are told of its functions: before their groups of attributes."""
+    matching(re.findall(r'(?m)^define .*?@([\w.]+)\(', module), *TO_PASSES)
 
-
-def told_module(module):
-    """The module with what is said of its functions, and with one way to say that nobody comes: what the sources call
-    `unreachable!` stops before it does. The C stops there too."""
-    matching(DEFINED.findall(module), *TO_PASSES)
-    module = re.sub(r'^ *(?:tail )?call void @llvm\.trap\(\).*\n(?= *unreachable)', '', module, flags=re.M)
-    return re.sub(r'^define .*?^\}\n', lambda found: told(found[0]), module, flags=re.M | re.S)
-
-
-if __name__ == '__main__':
-    sys.stdout.write(told_module(Path(sys.argv[1]).read_text(encoding='utf-8')))
+    def head(found):
+        said = [word for what, word in TO_PASSES.items() if said_of(found[1], what)]
+        return re.sub(r'( #\d+)', rf' {" ".join(said)}\1', found[0], count=1) if said else found[0]
+    return re.sub(r'(?m)^define .*?@([\w.]+)\(.*$', head, module)

@@ -320,7 +320,7 @@ def called(body, rest):
         return kind, Code('HAS_VECTORS', True), False
     body.function.calls.append(name if name in functions else fail(f'a call of {name}'))
     given = ', '.join(body.value(*argument).text for argument in arguments)
-    return kind, Code(f'{functions[name].name_for(body.function.name)}({given})', True), True
+    return kind, Code(f'{functions[name].c_name}({given})', True), True
 
 
 def memory_call(body, name, arguments):

@@ -33,7 +33,7 @@ def functions_of(text):
     begin at the margin with its head and a bracket alone."""
     found, begun, lines, numbers = {}, None, text.split('\n'), [0]
     for at, line in enumerate(lines):
-        numbers.append(numbers[-1] + (not line.lstrip().startswith('MARK(')))
+        numbers.append(numbers[-1] + (not line.lstrip().startswith('MARK')))
         if begun is None and re.match(r'(?:APART|LOCAL|INLINE|zacpi_status)\b', line) and not line.endswith(('}', ';')):
             begun = at
         if begun is not None and line == '}':
@@ -41,6 +41,16 @@ def functions_of(text):
             found[name] = '\n'.join(lines[begun:at + 1]), numbers[begun + 1:at + 2]
             begun = None
     return found
+
+
+def with_numbers(text):
+    """The text of a file with the numbers of its enumerators in their places; lines stay as they are."""
+    made = re.search(r'^enum \{(.*?)\};', text, re.M | re.S)
+    if not made:
+        return text
+    numbers = dict(re.findall(r'(\w+) = (\d+)', made[1]))
+    return re.sub(r'\bZ_\w+\b', lambda word: numbers.get(word[0], word[0]), text[:made.start()]) + made[0] + \
+        re.sub(r'\bZ_\w+\b', lambda word: numbers.get(word[0], word[0]), text[made.end():])
 
 
 def parsed(text):
@@ -134,9 +144,21 @@ class Steps:
         self.label(node.name)
         self.statement(node.stmt)
 
+    def asked(self, node, yes, no):
+        """A condition, of which C looks at the second part only if the first doesn't tell."""
+        if isinstance(node, c_ast.BinaryOp) and node.op in ('&&', '||'):
+            more = self.new()
+            self.asked(node.left, *((more, no) if node.op == '&&' else (yes, more)))
+            self.label(more)
+            self.asked(node.right, yes, no)
+        elif isinstance(node, c_ast.UnaryOp) and node.op == '!':
+            self.asked(node.expr, no, yes)
+        else:
+            self.put('if', node, yes, no)
+
     def choice(self, node):
         yes, no, end = self.new(), self.new(), self.new()
-        self.put('if', node.cond, yes, no)
+        self.asked(node.cond, yes, no)
         self.label(yes)
         self.statement(node.iftrue)
         self.put('goto', end)
@@ -161,6 +183,29 @@ class Steps:
         self.scope = outer
         self.label(end)
 
+    def repeated(self, node):
+        """A `while`, whose mark, if it has one, is where it asks, or a `do`."""
+        begin, asks, end, body = self.new(), self.new(), self.new(), self.new()
+        outer, is_while = self.scope, isinstance(node, c_ast.While)
+        self.around.append((end, begin if is_while else asks))
+        if is_while:
+            self.label(begin)
+            first = node.stmt.block_items[0] if node.stmt.block_items else None
+            if isinstance(first, c_ast.FuncCall) and first.name.name == 'MARK_BEFORE':
+                self.call(first)
+            self.asked(node.cond, body, end)
+            self.label(body)
+            self.statement(node.stmt)
+            self.put('goto', begin)
+        else:
+            self.label(begin)
+            self.statement(node.stmt)
+            self.label(asks)
+            self.asked(node.cond, begin, end)
+        self.around.pop()
+        self.scope = outer
+        self.label(end)
+
     def switch(self, node):
         end, place, outer = self.new(), len(self.steps), self.scope
         self.put('switch')
@@ -182,7 +227,9 @@ class Steps:
 
     def call(self, node):
         name = node.name.name
-        if name == 'MARK':
+        if name == 'MARK_BEFORE' and node.args.exprs[0].value[1:-1] in self.marks:
+            return
+        if name in ('MARK', 'MARK_BEFORE'):
             block = node.args.exprs[0].value[1:-1]
             if block in self.marks:
                 raise Refused(f'two marks of {block}')
@@ -200,7 +247,7 @@ def ignored(_, node):
 
 STATEMENTS = {
     'Compound': Steps.several, 'Decl': Steps.declaration, 'DeclList': Steps.declarations, 'Label': Steps.labelled,
-    'If': Steps.choice, 'For': Steps.loop, 'Switch': Steps.switch, 'FuncCall': Steps.call,
+    'While': Steps.repeated, 'DoWhile': Steps.repeated, 'If': Steps.choice, 'For': Steps.loop, 'Switch': Steps.switch, 'FuncCall': Steps.call,
     'Goto': lambda self, node: self.put('goto', node.name),
     'Break': lambda self, _: self.put('goto', self.around[-1][0]),
     'Continue': lambda self, _: self.put('goto', self.around[-1][1]),

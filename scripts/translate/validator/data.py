@@ -59,7 +59,8 @@ def wrong_data(module, c, names):
         c_name = names[name]
         there, aligned = arrays.get(c_name, (None, 1))
         if there is None:
-            yield c_name, 'it is not in the C'
+            # What nothing reads is left out.
+            yield c_name, 'it is not in the C' if re.search(rf'\b{c_name}\b', c) else None
         elif list(names.values()).count(c_name) > 1:
             yield c_name, 'two have this name'
         elif len(there) < len(content) or any(a not in (None, b) for a, b in zip(content, there)):

@@ -21,7 +21,28 @@ class Same:
         self.solver.set('rlimit', EFFORT // 10)
         self.edges, self.taken, self.begin = [], {}, None
 
+    def choose_cuts(self):
+        """Of the blocks that more than one way leads to, those that C has at one place. Each loop has to have one."""
+        marks, first = self.c.steps.marks, self.function.first
+        cuts = [cut for cut in self.function.cuts if cut == first or cut in marks]
+        state = {}
+
+        def visit(block):
+            state[block] = 'begun'
+            for after in self.function.following[block]:
+                if after in cuts or state.get(after) == 'done':
+                    continue
+                if state.get(after) == 'begun':
+                    raise Refused(f'no mark in a loop with {after}')
+                visit(after)
+            state[block] = 'done'
+        for cut in cuts:
+            if cut not in state:
+                visit(cut)
+        self.function.cuts = cuts
+
     def prove(self):
+        self.choose_cuts()
         for cut in self.function.cuts:
             if cut != self.function.first and cut not in self.c.steps.marks:
                 raise Refused(f'no mark of {cut}')

@@ -94,6 +94,8 @@ class C:
         self.steps, self.llvm, self.known = Steps(text, numbers), llvm, known
         self.value_of = {word: (name, 0) for name, word in hints['words'].items()}
         self.value_of.update({word: (name, offset) for name, offset, word in hints['pointers']})
+        self.value_of.update({word: self.value_of[first] for word, first in hints.get('copies', {}).items()
+                              if first in self.value_of})
         self.taken, self.at_cuts = set(), {}  # the variables that are read as they are at a cut, and their values there
 
     # Variables
@@ -356,8 +358,6 @@ class C:
         return None
 
     def function(self, way, name, given):
-        if name.endswith('_apart') and name[:-len('_apart')] in self.known.apart:
-            name = name[:-len('_apart')]
         if name not in self.known.results:
             refuse(f'a call of {name}')
         result, kinds = self.known.heads[name]

@@ -8,6 +8,7 @@ use crate::bytes::signature::Signature;
 
 /// DESCRIPTION_HEADER: the header of 36 bytes that every table begins with (section 5.2.6, table 5.4).
 #[derive(Clone, Copy, Debug)]
+#[repr(C)]
 pub struct SdtHeader {
     /// Signature: the four letters that name the table.
     pub signature: Signature,

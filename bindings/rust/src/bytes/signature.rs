@@ -7,6 +7,7 @@ use core::fmt;
 /// Signature: four bytes that name a table (section 5.2.6, table 5.5 and table 5.6). Signatures are ordered
 /// as their four bytes are, the first byte first.
 #[derive(Clone, Copy, PartialEq, Eq, PartialOrd, Ord)]
+#[repr(align(4))]
 pub struct Signature(pub(crate) [u8; 4]);
 
 impl Signature {
