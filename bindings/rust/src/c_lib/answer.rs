@@ -31,6 +31,7 @@ pub fn answer_plain<T: Copy>(said: Result<T, Refusal>, out: &mut T) -> u32 {
 }
 
 /// Writes the signature that an error carries, if it carries one.
+#[inline(never)]
 fn name(refusal: Refusal, named: &mut Signature) {
     if let Some(signature) = refusal.signature() {
         *named = Signature { letters: signature.to_bytes() };
