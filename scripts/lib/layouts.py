@@ -109,7 +109,7 @@ def add_lines(found, blocks, lines, base=0):
             offset, length, meaning, name = line.split(" | ")[0].split(maxsplit=3)
             items = items_of(blocks, line.split("|", 1)[1]) if "|" in line else ("", [])
             if base is None or not (offset.isdigit() and length.isdigit()):
-                found.rest.append((base, offset, length, name))
+                found.rest.append((base, offset, length, name, items))
             else:
                 found.add(Field(base + int(offset), int(length), meaning, name, items))
 

@@ -8,13 +8,15 @@ after the other. What is computed is left out, but for sums."""
 import re
 from dataclasses import dataclass
 
-from lib.definitions import definitions, parts
+from lib.definitions import definitions, items, parts
 
 READERS = {"field_of": 3, "part": 3, "filled_part": 3, "slice_index": 2, "drop": 1}
 WIDTHS = {"One": 1, "Two": 2, "U8": 1, "U16": 2, "U32": 4, "U64": 8}
 TOKEN = re.compile(r"--[^\n]*|\n|[(){},;]|[^\s(){},;]+")
 LAW = re.compile(r"(?m)((?:^--.*\n)*)^pub record (\w+)(?:.*\n)*?.* where\n((?:.+\n)+)")
 ALONE = re.compile(r"(?m)((?:^-- [^-].*\n)+)\n")
+# Of the bits of `accept`, which says what checks are given up, no table has any.
+BITS = re.compile(r"\b(?:has_bit|bits_of) (?!accept )(?:\((?:[^()]|\([^()]*\))*\)|\S+) (\d+)(?: (\d+))?")
 READ = re.compile(r"\b(?:field_of|part|filled_part) \S+ (\d+) (\d+)\b")
 
 
@@ -30,8 +32,16 @@ class Place:
 
 
 @dataclass
+class Bits:
+    """The lowest of some bits of a number, how many they are, and the comment beside them."""
+    low: int
+    width: int
+    note: str
+
+
+@dataclass
 class Reader:
-    """A definition, or a record of laws, that reads or writes bytes: the comment above it, and the places."""
+    """A definition, or a record of laws, that reads or writes bytes or bits: the comment above it, and the places."""
     crate: str
     stem: str
     name: str
@@ -183,6 +193,25 @@ def readers(crates):
         for above, name, body in LAW.findall(file.read_text()):
             if places := noted(body, passed):
                 yield Reader(crate, file.stem, name, re.sub(r"(?m)^-- |\n", " ", above).strip(), places)
+
+
+def bits_in(definition):
+    """The bits that a definition reads or writes."""
+    if definition.result == "List Bool":
+        written = items(body_of(definition)) if "∷" in body_of(definition) else []
+        yield from (Bits(low, 1, note) for low, (_, note) in enumerate(written))
+        return
+    for _, body in definition.equations:
+        for line in body.split("\n\n")[0].split("\n"):
+            text, _, note = line.partition("--")
+            yield from (Bits(int(low), int(width or 1), note.strip()) for low, width in BITS.findall(text))
+
+
+def readers_of_bits(crates):
+    """The definitions of crates that read or write bits."""
+    for it in (it for crate in crates for it in definitions(crate)):
+        if found := list(bits_in(it)):
+            yield Reader(it.crate, it.file.stem, it.name, comment_of(it), found)
 
 
 def unread(crates, found):
