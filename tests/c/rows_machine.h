@@ -5,6 +5,12 @@
 
 /* ---- The FADT and the FACS (sections 5.2.9 and 5.2.10) --------------------------------------------------- */
 
+/* What a PC has that is read as it is passed. */
+#define PC_NUMBERS \
+    .c2_latency = 101, .c3_latency = 1001, .flush_size = 0x400, .flush_stride = 0x40, .power_profile = 2, \
+    .acpi_enable = 0xa0, .acpi_disable = 0xa1, .s4bios_request = 0xa2, .pstate_control = 0xa3, \
+    .c_state_control = 0xa4, .gpe1_base = 0x20, .duty_offset = 1, .duty_width = 3, .day_alarm = 13, \
+    .month_alarm = 14, .century = 0x32, .reset_value = 6
 /* With every other flag, and reserved ones. gpe0 and gpe1, and `present` of pm1a and reset, aren't looked at; nor are
  * the codes of pm1b_control, which isn't there, since it is at address 0. */
 #define PORT(address, width, access) {{address, 1, width, 0, access}, 1}
@@ -15,10 +21,7 @@
     .pm2_control = PORT(0x650, 8, 1), .pm_timer = PORT(0x608, 32, 3), .gpe0 = {{1, 0x0b, 1, 1, 9}, 7}, \
     .gpe1 = {{1, 0x0b, 1, 1, 9}, 7}, .reset = {{0xcf9, 1, 8, 0, 1}, 2}, .gpe0_block = {0x620, 1, 16, 1}, \
     .gpe1_block = {0x100000000, 0, 40, 1}, .smi_command = 0xb2, .flags = 0xffe55555, .sci_interrupt = 0x1409, \
-    .x86_boot_flags = 0xffd5, .arm_boot_flags = 0xfffd, .c2_latency = 101, .c3_latency = 1001, .flush_size = 0x400, \
-    .flush_stride = 0x40, .power_profile = 2, .acpi_enable = 0xa0, .acpi_disable = 0xa1, .s4bios_request = 0xa2, \
-    .pstate_control = 0xa3, .c_state_control = 0xa4, .gpe1_base = 0x20, .duty_offset = 1, .duty_width = 3, \
-    .day_alarm = 13, .month_alarm = 14, .century = 0x32, .reset_value = 6}
+    .x86_boot_flags = 0xffd5, .arm_boot_flags = 0xfffd, PC_NUMBERS}
 static const struct zacpi_fixed_hardware pc_fadt = PC();
 /* With every other of the other flags. Its fixed hardware isn't looked at, nor is the register that resets. */
 static const struct zacpi_fixed_hardware reduced_fadt = {

@@ -24,10 +24,7 @@ static const struct zacpi_fixed_hardware read_pc[] = {
      .gpe0 = PORT(0x620, 128, 0), .gpe1 = {{0x100000000, 0, 255, 0, 0}, 1}, .reset = {{0xcf9, 1, 8, 0, 1}, 1},
      .sleep_control = {{0, 0, 0, 0, 0}, 1}, .sleep_status = {{0, 0, 0, 0, 0}, 1}, .gpe0_block = {0x620, 1, 16, 1},
      .gpe1_block = {0x100000000, 0, 40, 1}, .smi_command = 0xb2, .flags = 0x255555, .sci_interrupt = 0x1409,
-     .x86_boot_flags = 0x15, .arm_boot_flags = 1, .c2_latency = 101, .c3_latency = 1001, .flush_size = 0x400,
-     .flush_stride = 0x40, .power_profile = 2, .acpi_enable = 0xa0, .acpi_disable = 0xa1, .s4bios_request = 0xa2,
-     .pstate_control = 0xa3, .c_state_control = 0xa4, .gpe1_base = 0x20, .duty_offset = 1, .duty_width = 3,
-     .day_alarm = 13, .month_alarm = 14, .century = 0x32, .reset_value = 6, .revision = 6, .minor_revision = 4}};
+     .x86_boot_flags = 0x15, .arm_boot_flags = 1, PC_NUMBERS, .revision = 6, .minor_revision = 4}};
 /* Of `reduced_fadt`: its fixed hardware is zeros, of which PM1a_EVT_BLK and PM1a_CNT_BLK are ports. */
 static const struct zacpi_fixed_hardware read_reduced[] = {
     {.facs_address = 0x200000040, .dsdt_address = 0x100000010, .pm1a_event = PORT(0, 0, 0),
