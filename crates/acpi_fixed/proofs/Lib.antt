@@ -1,2 +1,3 @@
 pub mod ExtendedFields
 pub mod Profiles
+pub mod Short

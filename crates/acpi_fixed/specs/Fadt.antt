@@ -11,7 +11,8 @@ use Rattle.acpi_bytes.specs.declared.error.AcpiError.TheVariants as refusal
 use Rattle.acpi_fixed.specs.declared.fadt.PowerProfile.TheVariants as profiles
 
 -- what a table's bytes mean, in the order in which they are. A plain field that reaches past the end is read as if
--- zeros followed; an extended one is there only if the table has it whole (`Registers`)
+-- zeros followed; an extended one is there only if the table has it whole (`Registers`). Made for `HasBlocks`, at least
+-- 244 bytes
 unfoldable pub fadt_at : List ℕ → Fadt
 fadt_at b = record {
   header = header_at b;

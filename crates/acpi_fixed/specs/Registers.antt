@@ -1,6 +1,6 @@
 -- Blocks of registers and addresses that the FADT has in two ways: by a field of its first
 -- versions, and by an extended one (ACPI 6.4, section 5.2.9).
-use Rattle.std.specs.Prelude.{◌≡◌, ℕ, ◌+◌, ◌*◌, ◌<◌, ◌≤◌, ◌&&◌, ◌==◌, nat_le, nat_lt, Bool, if◌then◌else◌, List, length, replicate, Option, Some, None, is_none, option_map, Result, Ok, Err}
+use Rattle.std.specs.Prelude.{ℕ, ◌+◌, ◌-◌, ◌*◌, ◌/◌, ◌≤◌, ◌&&◌, ◌==◌, min, nat_le, nat_lt, Bool, if◌then◌else◌, List, length, take, replicate, slice_set, Option, Some, None, is_none, option_map, Result, Ok, Err}
 use Rattle.acpi_base.specs.FromStd.{option_map_or}
 use Rattle.acpi_bytes.specs.declared.address.AccessSize.TheVariants.{Undefined}
 use Rattle.acpi_bytes.specs.declared.address.AddressSpace.TheVariants.{SystemIo}
@@ -19,10 +19,6 @@ has_extended b offset n = nat_le 2 (field_of b 8 1) && nat_le (offset + n) (leng
 -- where extended fields may be: up to a table's end, and in one below revision 2 nowhere
 abbrev pub reach_of : List ℕ → ℕ
 reach_of b = if nat_le 2 (field_of b 8 1) then length b else 0
-
--- of the extended fields up to the last block's, a table has those that end by this offset
-abbrev pub Reaches : List ℕ → ℕ → Type 0
-Reaches b reach = (offset n : ℕ) → 0 < n → offset + n ≤ 244 → has_extended b offset n ≡ nat_le (offset + n) reach
 
 -- a number of eight bytes, 0 if the table doesn't have it: for a number, as for a block's address, no field and a field
 -- of 0 mean the same (section 5.2.9)
@@ -49,7 +45,19 @@ block_at b address size extended = record {
 abbrev pub HasBlocks : List ℕ → Type 0
 HasBlocks b = (2 ≤ field_of b 8 1) × (244 ≤ length b)
 
--- where a table has each register: its address, its length, its extended field
+-- how many bytes of any other table count: those before the first extended field that it lacks. These are
+-- X_FIRMWARE_CTRL at 132, X_DSDT at 140, and from 148 on the blocks, of twelve bytes each
+abbrev pub kept_of : List ℕ → ℕ
+kept_of b =
+    if nat_lt (reach_of b) 140 then min 132 (length b)
+    else if nat_lt (reach_of b) 148 then 140
+    else 148 + (reach_of b - 148) / 12 * 12
+
+-- such a table as one of revision 2 that has all extended blocks: zeros are in place of the fields that it lacks
+abbrev pub whole_of : List ℕ → List ℕ
+whole_of b = slice_set (filled_part (take (kept_of b) b) 0 244) 8 2
+
+-- where a table has each register: its address, its length, its extended field. Made for `HasBlocks`, at least 244 bytes
 abbrev pub registers_at : List ℕ → Registers
 registers_at b = record {
   pm1a_event = block_at b 56 88 148;  -- PM1a_EVT_BLK, PM1_EVT_LEN, X_PM1a_EVT_BLK

@@ -33,7 +33,6 @@ pub use Rattle.acpi_fixed.specs.Gpe.{
 }
 pub use Rattle.acpi_fixed.specs.Registers.{
   HasBlocks,
-  Reaches,
   address_or,
   block_of,
   block_or_ports,
@@ -42,6 +41,7 @@ pub use Rattle.acpi_fixed.specs.Registers.{
   extended_number,
   extended_of,
   has_extended,
+  kept_of,
   optional_block_of,
   optional_block_or_ports,
   port_of,
@@ -52,6 +52,7 @@ pub use Rattle.acpi_fixed.specs.Registers.{
   timer_block_of,
   timer_block_or_ports,
   usable_extended,
+  whole_of,
 }
 unfoldable pub use Rattle.acpi_fixed.specs.Registers.{block_at}
 pub use Rattle.acpi_fixed.specs.View.{viewed}

@@ -4,17 +4,21 @@
 
 mod codes;
 mod flags;
-mod places;
+mod offsets;
+mod readings;
 mod registers;
+mod short;
 mod view;
 
 use crate::base::address::GenericAddress;
-use crate::base::bytes::{field_in, u8_in, u16_in, u32_in};
+use crate::base::bytes::u8_in;
 use crate::base::sdt::SdtHeader;
 use crate::base::{AcpiError, AcpiResult, PhysicalRecord, SdtTable, Signature};
 pub use flags::{ArmBootArchFlags, FixedFeatureFlags, IaPcBootArchFlags};
+use readings::fadt_at;
 pub use registers::GpeBlock;
-use registers::{Registers, address_from, block_reach_in, extended_number_in, number_in, register_from};
+use registers::{BLOCKS_END, Registers, address_from, register_from};
+use short::whole;
 pub use view::FadtView;
 
 /// Preferred_PM_Profile: the machine's purpose (ACPI 6.4, section 5.2.9).
@@ -132,52 +136,15 @@ impl PhysicalRecord for Fadt {
     #[inline(always)]
     fn read(bytes: &[u8]) -> Self {
         // FADT Major Version.
-        if bytes.len() >= 244 && field_in(bytes, 8, 1) >= 2 {
-            Fadt::read_fields::<true>(bytes)
-        } else {
-            Fadt::read_fields::<false>(bytes)
-        }
+        if bytes.len() >= BLOCKS_END && u8_in(bytes, 8) >= 2 { fadt_at(bytes) } else { Fadt::read_short(bytes) }
     }
 }
 
 impl Fadt {
-    /// The record of a table. If it is known to have all extended blocks (`WHOLE`), as most have, none is
-    /// tested for.
+    /// The record of a table that lacks extended blocks, out of line, since few do.
     #[inline(never)]
-    fn read_fields<const WHOLE: bool>(bytes: &[u8]) -> Fadt {
-        // Read first, since they are in part tested for: what follows is read with no branch between.
-        let registers = Registers::read::<WHOLE>(bytes);
-        let reach = block_reach_in(bytes, WHOLE);
-        Fadt {
-            header: SdtHeader::read(bytes),
-            firmware_ctrl: u32_in(bytes, places::FIRMWARE_CTRL),
-            dsdt_address: u32_in(bytes, places::DSDT),
-            preferred_pm_profile: u8_in(bytes, places::PREFERRED_PM_PROFILE),
-            sci_interrupt: u16_in(bytes, places::SCI_INT),
-            smi_cmd_port: u32_in(bytes, places::SMI_CMD),
-            acpi_enable: u8_in(bytes, places::ACPI_ENABLE),
-            acpi_disable: u8_in(bytes, places::ACPI_DISABLE),
-            s4bios_req: u8_in(bytes, 54),     // S4BIOS_REQ
-            pstate_control: u8_in(bytes, 55), // PSTATE_CNT
-            registers,
-            gpe1_base: u8_in(bytes, places::GPE1_BASE),
-            c_state_control: u8_in(bytes, 95),   // CST_CNT
-            worst_c2_latency: u16_in(bytes, 96), // P_LVL2_LAT
-            worst_c3_latency: u16_in(bytes, 98), // P_LVL3_LAT
-            flush_size: u16_in(bytes, 100),      // FLUSH_SIZE
-            flush_stride: u16_in(bytes, 102),    // FLUSH_STRIDE
-            duty_offset: u8_in(bytes, 104),      // DUTY_OFFSET
-            duty_width: u8_in(bytes, 105),       // DUTY_WIDTH
-            day_alarm: u8_in(bytes, 106),        // DAY_ALRM
-            month_alarm: u8_in(bytes, 107),      // MON_ALRM
-            century: u8_in(bytes, 108),          // CENTURY
-            iapc_boot_arch: IaPcBootArchFlags(u16_in(bytes, places::IAPC_BOOT_ARCH)),
-            flags: FixedFeatureFlags(u32_in(bytes, places::FLAGS)),
-            reset_value: number_in(bytes, places::RESET_VALUE, 1, WHOLE) as u8,
-            arm_boot_arch: ArmBootArchFlags(number_in(bytes, places::ARM_BOOT_ARCH, 2, WHOLE) as u16),
-            x_firmware_ctrl: extended_number_in(bytes, reach, places::X_FIRMWARE_CTRL),
-            x_dsdt_address: extended_number_in(bytes, reach, places::X_DSDT),
-        }
+    fn read_short(table: &[u8]) -> Fadt {
+        Fadt { header: SdtHeader::read(table), ..fadt_at(&whole(table)) }
     }
 }
 

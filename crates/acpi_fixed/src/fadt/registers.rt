@@ -1,20 +1,25 @@
 //! Registers and addresses that the FADT has in two ways: by a field of its first versions, and by an
 //! extended one (section 5.2.9).
 //!
-//! Extended fields came with revision 2. Most tables have all the extended blocks: for a reader that knows it
-//! (`whole`) nothing is tested.
+//! Extended fields came with revision 2. Most tables have all the extended blocks: what reads records of those tests
+//! nothing (`short` makes others such tables).
 ghost use Rattle.std.specs.Prelude.{◌≡◌, ◌+◌, ◌*◌, ◌^◌, ◌<◌, ◌≤◌, length, true, nat_le, option_and_then, option_map, if◌then◌else◌};
 ghost use Rattle.acpi_base.specs.Words.{field_of, filled_part};
-ghost use Rattle.acpi_fixed.specs.Words.{HasBlocks, Reaches, address_or, extended_address, extended_bytes, extended_number, extended_of, reach_of, register_of, block_at, block_or_ports, port_of, usable_extended, optional_block_or_ports, ports_at, timer_block_or_ports, registers_at};
+ghost use Rattle.acpi_fixed.specs.Words.{HasBlocks, address_or, extended_address, extended_number, extended_of, reach_of, register_of, block_at, block_or_ports, port_of, usable_extended, optional_block_or_ports, ports_at, timer_block_or_ports, registers_at};
 
 mod gpe;
+mod readings;
 
-use super::places;
+use super::offsets;
 use acpi_base::address::{AccessSize, AddressSpace, GenericAddress, RawAddress};
 use acpi_base::bytes::{field, field_in, filled, filled_in, u8_in, u32_in};
 use acpi_base::{AcpiError, AcpiResult};
 pub use gpe::GpeBlock;
 pub(super) use gpe::base_beside;
+pub(super) use readings::registers_at;
+
+/// Where the last extended block ends, X_GPE1_BLK.
+pub(super) const BLOCKS_END: usize = offsets::GPE1.extended + 12;
 
 /// Where extended fields may be: before this offset, the length of a table whose FADT Major Version, at 8, is 2 or
 /// above, and of an older one 0.
@@ -24,37 +29,6 @@ pub(super) fn reach_in(table: &[u8]) -> usize
     ensures { result ≡ reach_of table.now }
 {
     if u8_in(table, 8) >= 2 { table.len() } else { 0 }
-}
-
-/// What `reach_in` is, as far as the extended blocks go: their end, if the table is known to have all of them.
-#[inline(always)]
-#[tactic(auto, using(crate::proofs::ExtendedFields::whole_reaches, crate::proofs::ExtendedFields::reaches))]
-pub(super) fn block_reach_in(table: &[u8], whole: bool) -> usize
-    requires table { 116 ≤ length table.now }
-    requires whole { (whole ≡ true) → HasBlocks table.now }
-    ensures { Reaches table.now result }
-{
-    if whole {
-        places::BLOCKS_END
-    } else {
-        reach_in(table)
-    }
-}
-
-/// The number of a plain field: nothing is tested if the table is known to have all extended blocks.
-#[inline(always)]
-pub(super) fn number_in(table: &[u8], offset: usize, n: usize, whole: bool) -> u64
-    requires few { n ≤ 8 }
-    requires offset { offset + n ≤ 244 }
-    requires whole { (whole ≡ true) → HasBlocks table.now }
-    ensures value { result ≡ field_of table.now offset n }
-    ensures fits { result < 2 ^ (8 * n) }
-{
-    if whole {
-        field_in(table, offset, n)
-    } else {
-        field(table, offset, n)
-    }
 }
 
 /// The twelve bytes of a generic address at an offset, all of which are there. They are one by one, since
@@ -89,7 +63,7 @@ pub(super) fn raw_in(table: &[u8], reach: usize, offset: usize) -> Option<&RawAd
 #[inline(always)]
 pub(super) fn extended_number_in(table: &[u8], reach: usize, offset: usize) -> u64
     requires offset { offset + 8 ≤ 244 }
-    requires reach { Reaches table.now reach }
+    requires reach { reach ≡ reach_of table.now }
     ensures { result ≡ extended_number table.now offset }
 {
     if offset + 8 <= reach {
@@ -99,29 +73,25 @@ pub(super) fn extended_number_in(table: &[u8], reach: usize, offset: usize) -> u
     }
 }
 
-/// The twelve bytes of a generic address at an offset, or zeros if they end after `reach`.
+/// The number in an extended field, of a table that has all blocks.
 #[inline(always)]
-fn extended_bytes_in(table: &[u8], reach: usize, offset: usize) -> RawAddress
-    requires offset { offset + 12 ≤ 244 }
-    requires reach { Reaches table.now reach }
-    ensures { result ≡ extended_bytes table.now offset }
+pub(super) fn extended_number(table: &[u8], offset: usize) -> u64
+    requires offset { offset + 8 ≤ 244 }
+    requires blocks { HasBlocks table.now }
+    ensures { result ≡ extended_number table.now offset }
 {
-    if offset + 12 <= reach {
-        address_in(table, offset)
-    } else {
-        [0; 12]
-    }
+    field_in(table, offset, 8)
 }
 
-/// The twelve bytes of a generic address at an offset, or `None` if they end after `reach`.
+/// The twelve bytes of a generic address in an extended field, or `None` if the table doesn't have them.
 #[inline(always)]
-fn extended_address_in(table: &[u8], reach: usize, offset: usize) -> Option<RawAddress>
+pub(super) fn extended_address(table: &[u8], offset: usize) -> Option<RawAddress>
+    requires table { 116 ≤ length table.now }
     requires offset { offset + 12 ≤ 276 }
-    requires reach { reach ≡ reach_of table.now }
     ensures { result ≡ extended_address table.now offset }
 {
-    if offset + 12 <= reach {
-        Some(address_in(table, offset))
+    if offset + 12 <= reach_in(table) {
+        Some(filled_in(table, offset))
     } else {
         None
     }
@@ -173,23 +143,6 @@ pub(crate) struct RegisterBlock {
 }
 
 impl RegisterBlock {
-    /// The block that a table has at a place.
-    #[inline(always)]
-    #[tactic(auto, unfolding(crate::specs::Registers::block_at))]
-    fn read(table: &[u8], reach: usize, place: BlockPlace) -> RegisterBlock
-        requires address { place.address + 4 ≤ length table.now }
-        requires size { place.size + 1 ≤ length table.now }
-        requires extended { place.extended + 12 ≤ 244 }
-        requires reach { Reaches table.now reach }
-        ensures { result ≡ block_at table.now place.address place.size place.extended }
-    {
-        RegisterBlock {
-            size: field_in(table, place.size, 1) as u8,
-            port: filled_in(table, place.address),
-            extended: extended_bytes_in(table, reach, place.extended),
-        }
-    }
-
     /// What its getters look at.
     #[inline(always)]
     pub(crate) fn fields(&self) -> BlockFields<'_>
@@ -334,33 +287,20 @@ pub(crate) struct Registers {
     pub(crate) sleep_status: Option<RawAddress>,
 }
 
-impl Registers {
-    /// The registers that a table contains. The blocks aren't tested for if the table is known to have all of
-    /// them (`WHOLE`).
-    #[inline(always)]
-    pub(super) fn read<const WHOLE: bool>(table: &[u8]) -> Registers
-        requires table { 116 ≤ length table.now }
-        requires whole { (WHOLE ≡ true) → HasBlocks table.now }
-        ensures { result ≡ registers_at table.now }
-    {
-        let reset = if WHOLE {
-            address_in(table, places::RESET_REG)
-        } else {
-            filled(table, places::RESET_REG)
-        };
-        let reach = block_reach_in(table, WHOLE);
-        Registers {
-            pm1a_event: RegisterBlock::read(table, reach, places::PM1A_EVENT),
-            pm1b_event: RegisterBlock::read(table, reach, places::PM1B_EVENT),
-            pm1a_control: RegisterBlock::read(table, reach, places::PM1A_CONTROL),
-            pm1b_control: RegisterBlock::read(table, reach, places::PM1B_CONTROL),
-            pm2_control: RegisterBlock::read(table, reach, places::PM2_CONTROL),
-            pm_timer: RegisterBlock::read(table, reach, places::PM_TIMER),
-            gpe0: RegisterBlock::read(table, reach, places::GPE0),
-            gpe1: RegisterBlock::read(table, reach, places::GPE1),
-            reset,
-            sleep_control: extended_address_in(table, reach_in(table), places::SLEEP_CONTROL_REG),
-            sleep_status: extended_address_in(table, reach_in(table), places::SLEEP_STATUS_REG),
-        }
+/// The block whose address, length and extended field a table has at these offsets, if it has all blocks.
+#[inline(always)]
+#[tactic(auto, unfolding(crate::specs::Registers::block_at))]
+pub(super) fn block_at(table: &[u8], address: usize, size: usize, extended: usize) -> RegisterBlock
+    requires address { address + 4 ≤ 116 }
+    requires size { size + 1 ≤ 116 }
+    requires extended { extended + 12 ≤ 244 }
+    requires length { 244 ≤ length table.now }
+    requires blocks { HasBlocks table.now }
+    ensures { result ≡ block_at table.now address size extended }
+{
+    RegisterBlock {
+        size: u8_in(table, size),
+        port: filled_in(table, address),
+        extended: address_in(table, extended),
     }
 }

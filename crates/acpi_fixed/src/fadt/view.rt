@@ -10,7 +10,7 @@ use super::registers::{
     register_from,
 };
 use super::{
-    ArmBootArchFlags, Fadt, FixedFeatureFlags, GpeBlock, IaPcBootArchFlags, PowerProfile, places,
+    ArmBootArchFlags, Fadt, FixedFeatureFlags, GpeBlock, IaPcBootArchFlags, PowerProfile, offsets,
 };
 use acpi_base::address::GenericAddress;
 use acpi_base::bytes::{field, filled, u8_in, u16_in, u32_in};
@@ -102,56 +102,56 @@ impl<'h, H: Lender> FadtView<'h, H> {
     pub fn power_profile(&self) -> PowerProfile
         ensures { result ≡ profile_of (viewed self.now) }
     {
-        PowerProfile::from(u8_in(self.bytes(), places::PREFERRED_PM_PROFILE))
+        PowerProfile::from(u8_in(self.bytes(), offsets::PREFERRED_PM_PROFILE))
     }
 
     /// SCI_INT: the interrupt that carries the machine's events.
     pub fn sci_interrupt(&self) -> u16
         ensures { result ≡ (viewed self.now).sci_interrupt }
     {
-        u16_in(self.bytes(), places::SCI_INT)
+        u16_in(self.bytes(), offsets::SCI_INT)
     }
 
     /// SMI_CMD: the port that commands to the firmware are written to.
     pub fn smi_cmd_port(&self) -> u32
         ensures { result ≡ (viewed self.now).smi_cmd_port }
     {
-        u32_in(self.bytes(), places::SMI_CMD)
+        u32_in(self.bytes(), offsets::SMI_CMD)
     }
 
     /// ACPI_ENABLE: the command that takes the hardware registers from the firmware.
     pub fn acpi_enable(&self) -> u8
         ensures { result ≡ (viewed self.now).acpi_enable }
     {
-        u8_in(self.bytes(), places::ACPI_ENABLE)
+        u8_in(self.bytes(), offsets::ACPI_ENABLE)
     }
 
     /// ACPI_DISABLE: the command that returns the hardware registers to the firmware.
     pub fn acpi_disable(&self) -> u8
         ensures { result ≡ (viewed self.now).acpi_disable }
     {
-        u8_in(self.bytes(), places::ACPI_DISABLE)
+        u8_in(self.bytes(), offsets::ACPI_DISABLE)
     }
 
     /// IAPC_BOOT_ARCH: the devices of a PC.
     pub fn iapc_boot_arch(&self) -> IaPcBootArchFlags
         ensures { result ≡ (viewed self.now).iapc_boot_arch }
     {
-        IaPcBootArchFlags(u16_in(self.bytes(), places::IAPC_BOOT_ARCH))
+        IaPcBootArchFlags(u16_in(self.bytes(), offsets::IAPC_BOOT_ARCH))
     }
 
     /// ARM_BOOT_ARCH: the way in which the firmware of an Arm machine is called.
     pub fn arm_boot_arch(&self) -> ArmBootArchFlags
         ensures { result ≡ (viewed self.now).arm_boot_arch }
     {
-        ArmBootArchFlags(field(self.bytes(), places::ARM_BOOT_ARCH, 2) as u16)
+        ArmBootArchFlags(field(self.bytes(), offsets::ARM_BOOT_ARCH, 2) as u16)
     }
 
     /// Flags (Fixed Feature Flags): what the fixed hardware does and needs.
     pub fn flags(&self) -> FixedFeatureFlags
         ensures { result ≡ (viewed self.now).flags }
     {
-        FixedFeatureFlags(u32_in(self.bytes(), places::FLAGS))
+        FixedFeatureFlags(u32_in(self.bytes(), offsets::FLAGS))
     }
 
     /// X_FIRMWARE_CTRL or FIRMWARE_CTRL: the physical address of the FACS.
@@ -159,8 +159,8 @@ impl<'h, H: Lender> FadtView<'h, H> {
     pub fn facs_address(&self) -> AcpiResult<u64>
         ensures { result ≡ facs_address_of (viewed self.now) }
     {
-        let wide = extended_number_in(self.bytes(), self.reach, places::X_FIRMWARE_CTRL);
-        let narrow = u32_in(self.bytes(), places::FIRMWARE_CTRL);
+        let wide = extended_number_in(self.bytes(), self.reach, offsets::X_FIRMWARE_CTRL);
+        let narrow = u32_in(self.bytes(), offsets::FIRMWARE_CTRL);
         address_from(AcpiError::InvalidFacsAddress, wide, narrow)
     }
 
@@ -169,8 +169,8 @@ impl<'h, H: Lender> FadtView<'h, H> {
     pub fn dsdt_address(&self) -> AcpiResult<u64>
         ensures { result ≡ dsdt_address_of (viewed self.now) }
     {
-        let wide = extended_number_in(self.bytes(), self.reach, places::X_DSDT);
-        let narrow = u32_in(self.bytes(), places::DSDT);
+        let wide = extended_number_in(self.bytes(), self.reach, offsets::X_DSDT);
+        let narrow = u32_in(self.bytes(), offsets::DSDT);
         address_from(AcpiError::InvalidDsdtAddress, wide, narrow)
     }
 
@@ -179,7 +179,7 @@ impl<'h, H: Lender> FadtView<'h, H> {
     pub fn pm1a_event_block(&self) -> AcpiResult<GenericAddress>
         ensures { result ≡ block_of (registers_of (viewed self.now)).pm1a_event }
     {
-        self.fields(places::PM1A_EVENT).block()
+        self.fields(offsets::PM1A_EVENT).block()
     }
 
     /// X_PM1b_EVT_BLK or PM1b_EVT_BLK: the second block of event registers.
@@ -187,7 +187,7 @@ impl<'h, H: Lender> FadtView<'h, H> {
     pub fn pm1b_event_block(&self) -> AcpiResult<Option<GenericAddress>>
         ensures { result ≡ optional_block_of (registers_of (viewed self.now)).pm1b_event }
     {
-        self.fields(places::PM1B_EVENT).optional_block()
+        self.fields(offsets::PM1B_EVENT).optional_block()
     }
 
     /// X_PM1a_CNT_BLK or PM1a_CNT_BLK: the control registers of the fixed hardware.
@@ -195,7 +195,7 @@ impl<'h, H: Lender> FadtView<'h, H> {
     pub fn pm1a_control_block(&self) -> AcpiResult<GenericAddress>
         ensures { result ≡ block_of (registers_of (viewed self.now)).pm1a_control }
     {
-        self.fields(places::PM1A_CONTROL).block()
+        self.fields(offsets::PM1A_CONTROL).block()
     }
 
     /// X_PM1b_CNT_BLK or PM1b_CNT_BLK: the second block of control registers.
@@ -203,7 +203,7 @@ impl<'h, H: Lender> FadtView<'h, H> {
     pub fn pm1b_control_block(&self) -> AcpiResult<Option<GenericAddress>>
         ensures { result ≡ optional_block_of (registers_of (viewed self.now)).pm1b_control }
     {
-        self.fields(places::PM1B_CONTROL).optional_block()
+        self.fields(offsets::PM1B_CONTROL).optional_block()
     }
 
     /// X_PM2_CNT_BLK or PM2_CNT_BLK: the second control register.
@@ -211,7 +211,7 @@ impl<'h, H: Lender> FadtView<'h, H> {
     pub fn pm2_control_block(&self) -> AcpiResult<Option<GenericAddress>>
         ensures { result ≡ optional_block_of (registers_of (viewed self.now)).pm2_control }
     {
-        self.fields(places::PM2_CONTROL).optional_block()
+        self.fields(offsets::PM2_CONTROL).optional_block()
     }
 
     /// X_PM_TMR_BLK or PM_TMR_BLK: the register of the power management timer.
@@ -219,7 +219,7 @@ impl<'h, H: Lender> FadtView<'h, H> {
     pub fn pm_timer_block(&self) -> AcpiResult<Option<GenericAddress>>
         ensures { result ≡ pm_timer_of (viewed self.now) }
     {
-        self.fields(places::PM_TIMER).timer_block()
+        self.fields(offsets::PM_TIMER).timer_block()
     }
 
     /// X_GPE0_BLK or GPE0_BLK: the registers of the first general purpose events.
@@ -227,7 +227,7 @@ impl<'h, H: Lender> FadtView<'h, H> {
     pub fn gpe0_block(&self) -> AcpiResult<Option<GenericAddress>>
         ensures { result ≡ optional_block_of (registers_of (viewed self.now)).gpe0 }
     {
-        self.fields(places::GPE0).optional_block()
+        self.fields(offsets::GPE0).optional_block()
     }
 
     /// X_GPE1_BLK or GPE1_BLK: the registers of further general purpose events.
@@ -235,28 +235,28 @@ impl<'h, H: Lender> FadtView<'h, H> {
     pub fn gpe1_block(&self) -> AcpiResult<Option<GenericAddress>>
         ensures { result ≡ optional_block_of (registers_of (viewed self.now)).gpe1 }
     {
-        self.fields(places::GPE1).optional_block()
+        self.fields(offsets::GPE1).optional_block()
     }
 
     /// X_GPE0_BLK or GPE0_BLK with GPE0_BLK_LEN: a block of any length.
     pub fn gpe0(&self) -> AcpiResult<Option<GpeBlock>>
         ensures { result ≡ gpe_of (registers_of (viewed self.now)).gpe0 }
     {
-        self.fields(places::GPE0).gpe()
+        self.fields(offsets::GPE0).gpe()
     }
 
     /// X_GPE1_BLK or GPE1_BLK with GPE1_BLK_LEN: a block of any length.
     pub fn gpe1(&self) -> AcpiResult<Option<GpeBlock>>
         ensures { result ≡ gpe_of (registers_of (viewed self.now)).gpe1 }
     {
-        self.fields(places::GPE1).gpe()
+        self.fields(offsets::GPE1).gpe()
     }
 
     /// GPE1_BASE: the number of the first event of `gpe1`.
     pub fn gpe1_base(&self) -> Option<u8>
         ensures { result ≡ gpe1_base_of (viewed self.now) }
     {
-        base_beside(u8_in(self.bytes(), places::GPE1_BASE), self.gpe1())
+        base_beside(u8_in(self.bytes(), offsets::GPE1_BASE), self.gpe1())
     }
 
     /// RESET_REG: the register that resets the machine.
@@ -265,9 +265,9 @@ impl<'h, H: Lender> FadtView<'h, H> {
         ensures { result ≡ generic_address_of (registers_of (viewed self.now)).reset }
     {
         let table = self.bytes();
-        match raw_in(table, table.len(), places::RESET_REG) {
+        match raw_in(table, table.len(), offsets::RESET_REG) {
             Some(raw) => GenericAddress::read(raw),
-            None => GenericAddress::from_raw(filled(table, places::RESET_REG)),
+            None => GenericAddress::from_raw(filled(table, offsets::RESET_REG)),
         }
     }
 
@@ -275,20 +275,20 @@ impl<'h, H: Lender> FadtView<'h, H> {
     pub fn reset_value(&self) -> u8
         ensures { result ≡ (viewed self.now).reset_value }
     {
-        field(self.bytes(), places::RESET_VALUE, 1) as u8
+        field(self.bytes(), offsets::RESET_VALUE, 1) as u8
     }
 
     /// SLEEP_CONTROL_REG: the register that puts a machine of reduced hardware to sleep.
     pub fn sleep_control_register(&self) -> AcpiResult<Option<GenericAddress>>
         ensures { result ≡ register_of (registers_of (viewed self.now)).sleep_control }
     {
-        register_from(raw_in(self.bytes(), self.reach, places::SLEEP_CONTROL_REG))
+        register_from(raw_in(self.bytes(), self.reach, offsets::SLEEP_CONTROL_REG))
     }
 
     /// SLEEP_STATUS_REG: the wake status of a machine of reduced hardware.
     pub fn sleep_status_register(&self) -> AcpiResult<Option<GenericAddress>>
         ensures { result ≡ register_of (registers_of (viewed self.now)).sleep_status }
     {
-        register_from(raw_in(self.bytes(), self.reach, places::SLEEP_STATUS_REG))
+        register_from(raw_in(self.bytes(), self.reach, offsets::SLEEP_STATUS_REG))
     }
 }

@@ -2,35 +2,28 @@
 //! Registers and addresses that the FADT has in two ways: by a field of its first versions, and by an
 //! extended one (section 5.2.9).
 //!
-//! Extended fields came with revision 2. Most tables have all the extended blocks: for a reader that knows it
-//! (`whole`) nothing is tested.
+//! Extended fields came with revision 2. Most tables have all the extended blocks: what reads records of those tests
+//! nothing (`short` makes others such tables).
 
 mod gpe;
+mod readings;
 
-use super::places;
+use super::offsets;
 use crate::base::address::{AccessSize, AddressSpace, GenericAddress, RawAddress};
 use crate::base::bytes::{field, field_in, filled, filled_in, u8_in, u32_in};
 use crate::base::{AcpiError, AcpiResult};
 pub use gpe::GpeBlock;
 pub(super) use gpe::base_beside;
+pub(super) use readings::registers_at;
+
+/// Where the last extended block ends, X_GPE1_BLK.
+pub(super) const BLOCKS_END: usize = offsets::GPE1.extended + 12;
 
 /// Where extended fields may be: before this offset, the length of a table whose FADT Major Version, at 8, is 2 or
 /// above, and of an older one 0.
 #[inline(always)]
 pub(super) fn reach_in(table: &[u8]) -> usize {
     if u8_in(table, 8) >= 2 { table.len() } else { 0 }
-}
-
-/// What `reach_in` is, as far as the extended blocks go: their end, if the table is known to have all of them.
-#[inline(always)]
-pub(super) fn block_reach_in(table: &[u8], whole: bool) -> usize {
-    if whole { places::BLOCKS_END } else { reach_in(table) }
-}
-
-/// The number of a plain field: nothing is tested if the table is known to have all extended blocks.
-#[inline(always)]
-pub(super) fn number_in(table: &[u8], offset: usize, n: usize, whole: bool) -> u64 {
-    if whole { field_in(table, offset, n) } else { field(table, offset, n) }
 }
 
 /// The twelve bytes of a generic address at an offset, all of which are there. They are one by one, since
@@ -59,16 +52,16 @@ pub(super) fn extended_number_in(table: &[u8], reach: usize, offset: usize) -> u
     if offset + 8 <= reach { field_in(table, offset, 8) } else { 0 }
 }
 
-/// The twelve bytes of a generic address at an offset, or zeros if they end after `reach`.
+/// The number in an extended field, of a table that has all blocks.
 #[inline(always)]
-fn extended_bytes_in(table: &[u8], reach: usize, offset: usize) -> RawAddress {
-    if offset + 12 <= reach { address_in(table, offset) } else { [0; 12] }
+pub(super) fn extended_number(table: &[u8], offset: usize) -> u64 {
+    field_in(table, offset, 8)
 }
 
-/// The twelve bytes of a generic address at an offset, or `None` if they end after `reach`.
+/// The twelve bytes of a generic address in an extended field, or `None` if the table doesn't have them.
 #[inline(always)]
-fn extended_address_in(table: &[u8], reach: usize, offset: usize) -> Option<RawAddress> {
-    if offset + 12 <= reach { Some(address_in(table, offset)) } else { None }
+pub(super) fn extended_address(table: &[u8], offset: usize) -> Option<RawAddress> {
+    if offset + 12 <= reach_in(table) { Some(filled_in(table, offset)) } else { None }
 }
 
 /// The 64-bit address if it is not 0, else the 32-bit one.
@@ -113,16 +106,6 @@ pub(crate) struct RegisterBlock {
 }
 
 impl RegisterBlock {
-    /// The block that a table has at a place.
-    #[inline(always)]
-    fn read(table: &[u8], reach: usize, place: BlockPlace) -> RegisterBlock {
-        RegisterBlock {
-            size: field_in(table, place.size, 1) as u8,
-            port: filled_in(table, place.address),
-            extended: extended_bytes_in(table, reach, place.extended),
-        }
-    }
-
     /// What its getters look at.
     #[inline(always)]
     pub(crate) fn fields(&self) -> BlockFields<'_> {
@@ -238,25 +221,8 @@ pub(crate) struct Registers {
     pub(crate) sleep_status: Option<RawAddress>,
 }
 
-impl Registers {
-    /// The registers that a table contains. The blocks aren't tested for if the table is known to have all of
-    /// them (`WHOLE`).
-    #[inline(always)]
-    pub(super) fn read<const WHOLE: bool>(table: &[u8]) -> Registers {
-        let reset = if WHOLE { address_in(table, places::RESET_REG) } else { filled(table, places::RESET_REG) };
-        let reach = block_reach_in(table, WHOLE);
-        Registers {
-            pm1a_event: RegisterBlock::read(table, reach, places::PM1A_EVENT),
-            pm1b_event: RegisterBlock::read(table, reach, places::PM1B_EVENT),
-            pm1a_control: RegisterBlock::read(table, reach, places::PM1A_CONTROL),
-            pm1b_control: RegisterBlock::read(table, reach, places::PM1B_CONTROL),
-            pm2_control: RegisterBlock::read(table, reach, places::PM2_CONTROL),
-            pm_timer: RegisterBlock::read(table, reach, places::PM_TIMER),
-            gpe0: RegisterBlock::read(table, reach, places::GPE0),
-            gpe1: RegisterBlock::read(table, reach, places::GPE1),
-            reset,
-            sleep_control: extended_address_in(table, reach_in(table), places::SLEEP_CONTROL_REG),
-            sleep_status: extended_address_in(table, reach_in(table), places::SLEEP_STATUS_REG),
-        }
-    }
+/// The block whose address, length and extended field a table has at these offsets, if it has all blocks.
+#[inline(always)]
+pub(super) fn block_at(table: &[u8], address: usize, size: usize, extended: usize) -> RegisterBlock {
+    RegisterBlock { size: u8_in(table, size), port: filled_in(table, address), extended: address_in(table, extended) }
 }

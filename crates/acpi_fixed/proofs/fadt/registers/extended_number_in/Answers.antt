@@ -4,5 +4,4 @@ use Rattle.acpi_fixed.proofs.fadt.registers.extended_number_in.Goals as goal
 
 pub field_in-requires-clause-there : goal.field_in-requires-clause-there
 field_in-requires-clause-there c =
-    is_there c.args.table.now c.args.reach c.args.offset 8 c.requires.reach (omega arith) c.requires.offset
-    c.if-offset-reach.true
+    is_there c.args.table.now c.args.offset 8 (omega arith) (omega (arith, c.requires.reach, c.if-offset-reach.true))

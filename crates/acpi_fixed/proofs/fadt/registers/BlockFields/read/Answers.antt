@@ -7,7 +7,7 @@ pub returns-clause-extended : goal.returns-clause-extended
 unfolding block_at
 returns-clause-extended c =
     c.usable.ensures ∙ ap (option_and_then usable_extended) c.raw_in.ensures
-    ∙ usable_in c.args.table.now c.args.reach c.args.place.extended c.requires.reach c.requires.extended
+    ∙ usable_in c.args.table.now c.args.reach c.args.place.extended c.requires.reach
 
 pub returns-clause-port : goal.returns-clause-port
 unfolding block_at

@@ -1,5 +1,5 @@
-// Made by scripts/erase of crates/acpi_fixed/src/fadt/places.rt, where it is proved.
-//! The offsets of the fields of a FADT that both its record and its view read (section 5.2.9).
+// Made by scripts/erase of crates/acpi_fixed/src/fadt/offsets.rt, where it is proved.
+//! Made by scripts/readings: the offsets of what is read alone, as definitions in specs/ have them.
 
 use super::registers::BlockPlace;
 
@@ -20,10 +20,8 @@ pub(super) const ACPI_DISABLE: usize = 53;
 pub(super) const GPE1_BASE: usize = 94;
 
 pub(super) const IAPC_BOOT_ARCH: usize = 109;
-/// Flags (Fixed Feature Flags).
-pub(super) const FLAGS: usize = 112;
 
-pub(super) const RESET_REG: usize = 116;
+pub(super) const FLAGS: usize = 112;
 
 pub(super) const RESET_VALUE: usize = 128;
 
@@ -32,11 +30,6 @@ pub(super) const ARM_BOOT_ARCH: usize = 129;
 pub(super) const X_FIRMWARE_CTRL: usize = 132;
 
 pub(super) const X_DSDT: usize = 140;
-
-pub(super) const SLEEP_CONTROL_REG: usize = 244;
-
-pub(super) const SLEEP_STATUS_REG: usize = 256;
-
 /// PM1a_EVT_BLK, PM1_EVT_LEN, X_PM1a_EVT_BLK.
 pub(super) const PM1A_EVENT: BlockPlace = BlockPlace { address: 56, size: 88, extended: 148 };
 /// PM1b_EVT_BLK, PM1_EVT_LEN, X_PM1b_EVT_BLK.
@@ -54,5 +47,8 @@ pub(super) const GPE0: BlockPlace = BlockPlace { address: 80, size: 92, extended
 /// GPE1_BLK, GPE1_BLK_LEN, X_GPE1_BLK.
 pub(super) const GPE1: BlockPlace = BlockPlace { address: 84, size: 93, extended: 232 };
 
-/// Where the last of these ends, X_GPE1_BLK.
-pub(super) const BLOCKS_END: usize = 244;
+pub(super) const RESET_REG: usize = 116;
+
+pub(super) const SLEEP_CONTROL_REG: usize = 244;
+
+pub(super) const SLEEP_STATUS_REG: usize = 256;

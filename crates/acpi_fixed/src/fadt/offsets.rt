@@ -1,4 +1,4 @@
-//! The offsets of the fields of a FADT that both its record and its view read (section 5.2.9).
+//! Made by scripts/readings: the offsets of what is read alone, as definitions in specs/ have them.
 
 use super::registers::BlockPlace;
 
@@ -19,10 +19,8 @@ pub(super) const ACPI_DISABLE: usize = 53;
 pub(super) const GPE1_BASE: usize = 94;
 
 pub(super) const IAPC_BOOT_ARCH: usize = 109;
-/// Flags (Fixed Feature Flags).
-pub(super) const FLAGS: usize = 112;
 
-pub(super) const RESET_REG: usize = 116;
+pub(super) const FLAGS: usize = 112;
 
 pub(super) const RESET_VALUE: usize = 128;
 
@@ -31,11 +29,6 @@ pub(super) const ARM_BOOT_ARCH: usize = 129;
 pub(super) const X_FIRMWARE_CTRL: usize = 132;
 
 pub(super) const X_DSDT: usize = 140;
-
-pub(super) const SLEEP_CONTROL_REG: usize = 244;
-
-pub(super) const SLEEP_STATUS_REG: usize = 256;
-
 /// PM1a_EVT_BLK, PM1_EVT_LEN, X_PM1a_EVT_BLK.
 pub(super) const PM1A_EVENT: BlockPlace = BlockPlace {
     address: 56,
@@ -85,5 +78,8 @@ pub(super) const GPE1: BlockPlace = BlockPlace {
     extended: 232,
 };
 
-/// Where the last of these ends, X_GPE1_BLK.
-pub(super) const BLOCKS_END: usize = 244;
+pub(super) const RESET_REG: usize = 116;
+
+pub(super) const SLEEP_CONTROL_REG: usize = 244;
+
+pub(super) const SLEEP_STATUS_REG: usize = 256;
