@@ -38,6 +38,7 @@ minor_revision_in table = field_of table 131 1
 abbrev pub hypervisor_id_in : List ℕ → ℕ
 hypervisor_id_in table = if nat_lt (revision_in table) 6 then 0 else field_of table 268 8
 
+-- the fixed hardware that a FADT describes (section 5.2.9): fields that no call decodes are read as they are
 abbrev pub fixed_record : Fadt → ℕ → ℕ → ℕ → FixedHardware
 fixed_record f revision minor_revision hypervisor_id = record {
   -- an address is an error only if it is 0

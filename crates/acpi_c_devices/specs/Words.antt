@@ -37,12 +37,9 @@ pub use Rattle.acpi_c_devices.specs.Devices.{
 }
 pub use Rattle.acpi_c_devices.specs.Fixed.{
   fixed_below,
-  fixed_record,
   gpe_record,
   hypervisor_id_in,
-  minor_revision_in,
   no_gpe,
-  revision_in,
 }
 pub use Rattle.acpi_c_devices.specs.Iommu.{
   block_record,
