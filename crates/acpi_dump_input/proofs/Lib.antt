@@ -1,4 +1,6 @@
+mod Absent
 mod Growing
+mod Listing
 mod Lists
 mod Parts
 mod Reading

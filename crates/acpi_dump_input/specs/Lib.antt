@@ -3,3 +3,4 @@ pub mod Extract
 pub mod Given
 pub mod Held
 pub mod Inputs
+pub mod Listed

@@ -23,6 +23,11 @@ impl Show for Flaws {
 }
 
 impl ShowObjects for Flaws {
+    // Any state may come after any other.
+    ghost shows = { λ _ _ _. Unit {0} };
+
+    ghost stops = { λ _ _ _ _. Unit {0} };
+
     fn object(&mut self, _object: &Object<'_>) {}
 
     fn ends(&mut self, _offset: u64, why: Ends) {

@@ -1,5 +1,6 @@
 //! The named objects of AML, in the order of the bytes (ACPI 6.4, section 20.2.5). AML is not run.
-ghost use Rattle.std.specs.Prelude.{◌<◌, ◌≤◌, length, IfOk};
+ghost use Rattle.std.specs.Prelude.{◌≡◌, ◌<◌, ◌≤◌, List, length, IfErr, IfOk, IfSome};
+ghost use Rattle.acpi_dump_walk.specs.Passed.{IsBegun, IsPassed, IsTerm, Within};
 
 pub mod constant;
 pub mod parts;
@@ -172,7 +173,10 @@ struct Found<'a> {
 /// The object at an offset.
 fn found_at(aml: &[u8], at: usize) -> Result<Found<'_>, AmlError>
     requires { at ≤ length aml.now }
-    ensures { IfOk result (λ found. at < found.end) }
+    ensures after { IfOk result (λ found. at < found.end) }
+    ensures within { IfOk result (λ found. found.end ≤ length aml.now) }
+    ensures inner { IfOk result (λ found. IfSome found.inner (λ inner. inner < found.end → found.own.1 ≡ inner)) }
+    ensures units { IfOk result (λ found. IfSome found.units (λ units. at ≤ units)) }
 {
     let opcode = opcode_at(aml, at)?;
     let (Some((kind, rest)), Some(parts)) = (form_of(opcode.code), parts_after(opcode.code)) else {
@@ -222,7 +226,8 @@ fn found_at(aml: &[u8], at: usize) -> Result<Found<'_>, AmlError>
 /// The name that the block begins with whose PkgLength is at an offset, and where it is.
 fn name_in(aml: &[u8], at: usize) -> Result<(usize, Name), AmlError>
     requires { at ≤ length aml.now }
-    ensures { IfOk result (λ found. found.1.end ≤ length aml.now) }
+    ensures after { IfOk result (λ found. at < found.1.end) }
+    ensures within { IfOk result (λ found. found.1.end ≤ length aml.now) }
 {
     let block = block_at(aml, at)?;
     Ok((block.start, name_at(&aml[..block.end], block.start)?))
@@ -278,7 +283,9 @@ fn show_object<S: ShowObjects>(
     show: &mut S,
 ) -> Result<usize, Ends>
     requires { at < length table.now }
-    ensures { IfOk result (λ next. at < next) }
+    ensures within { IfOk result (λ next. next ≤ length table.now) }
+    ensures term { IfOk result (λ next. IsTerm S.shows at next show.old show.new) }
+    ensures begun { IfErr result (λ e. IsBegun S.shows at show.old show.new) }
 {
     scopes.leave(at);
     let aml = match scopes.open.last() {
@@ -317,7 +324,7 @@ fn show_object<S: ShowObjects>(
         _ => {
             scopes.letters.truncate(start);
             if let Some(units) = found.units {
-                show_units(aml.get(..found.end).unwrap_or(aml), units, scopes, show)?;
+                show_units(&aml[..found.end], units, scopes, show)?;
             }
             Ok(found.end)
         }
@@ -331,7 +338,9 @@ fn show_units<S: ShowObjects>(
     start: usize,
     scopes: &mut Scopes,
     show: &mut S,
-) -> Result<(), AllocError> {
+) -> Result<(), AllocError>
+    ensures { Within S.shows start (length aml.now) show.old show.new }
+{
     let (mut at, mut bit): (usize, u64) = (start, 0);
     'units: while at < aml.len() {
         let Ok(unit) = unit_at(aml, at) else {
@@ -356,12 +365,10 @@ fn show_units<S: ShowObjects>(
 }
 
 /// Shows the objects of a table from an offset on, up to one that isn't understood.
-pub(crate) fn show_objects<S: ShowObjects>(
-    alloc: Global,
-    table: &[u8],
-    start: usize,
-    show: &mut S,
-) {
+pub(crate) fn show_objects<S: ShowObjects>(alloc: Global, table: &[u8], start: usize, show: &mut S)
+    requires { start ≤ length table.now }
+    ensures { IsPassed S.shows S.stops start (length table.now) show.old show.new }
+{
     let mut scopes = Scopes {
         open: Vec::new(alloc),
         letters: Vec::new(alloc),

@@ -40,6 +40,11 @@ impl Show for Text<'_> {
 }
 
 impl ShowObjects for Text<'_> {
+    // Any state may come after any other.
+    ghost shows = { λ _ _ _. Unit {0} };
+
+    ghost stops = { λ _ _ _ _. Unit {0} };
+
     fn object(&mut self, object: &Object<'_>) {
         let out = &mut *self.out;
         let start = out.length();

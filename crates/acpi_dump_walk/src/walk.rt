@@ -1,5 +1,10 @@
 //! A walk over a table by its layout, which shows what there is in the order of the bytes.
 
+ghost use Rattle.std.specs.Prelude.{◌≡◌, ◌≤◌, ℕ, length, true};
+ghost use Rattle.acpi_dump_walk.specs.Passed.{IsPassed, has_aml};
+ghost use Rattle.acpi_dump_walk.specs.declared.aml.Ends.{Ends};
+ghost use Rattle.acpi_dump_walk.specs.declared.aml.Object.{Object};
+
 mod entry;
 mod parts;
 
@@ -64,19 +69,26 @@ pub trait Show {
 
 /// What a walk shows also the objects to that AML defines, in place of its bytes.
 pub trait ShowObjects: Show {
+    // What `object` does: the state before it and the one after it.
+    ghost shows: { Object → Self → Self → Type 0 };
+
+    // What `ends` does.
+    ghost stops: { ℕ → Ends → Self → Self → Type 0 };
+
     /// Shows an object.
-    fn object(&mut self, object: &Object<'_>);
+    fn object(&mut self, object: &Object<'_>)
+        ensures { shows object.now self.old self.new };
 
     /// Shows why the objects from an offset of the table on aren't shown.
-    fn ends(&mut self, offset: u64, why: Ends);
+    fn ends(&mut self, offset: u64, why: Ends)
+        ensures { stops offset why self.old self.new };
 }
 
-/// The tables whose bytes after the header are AML (section 5.2.11).
-const AML_TABLES: [Signature; 3] = [Signature::DSDT, Signature::SSDT, Signature::PSDT];
-
-/// Whether tables of a signature have AML after the header.
-pub fn has_aml(signature: Signature) -> bool {
-    AML_TABLES.contains(&signature)
+/// Whether tables of a signature have AML after the header (section 5.2.11).
+pub fn has_aml(signature: Signature) -> bool
+    ensures { result ≡ has_aml signature }
+{
+    signature == Signature::DSDT || signature == Signature::SSDT || signature == Signature::PSDT
 }
 
 /// Shows a table by its layout, and in place of the bytes of AML the objects that it defines.
@@ -85,7 +97,11 @@ pub fn walk_with_objects<S: ShowObjects>(
     signature: Signature,
     table: &[u8],
     show: &mut S,
-) {
+)
+    // After the header each byte of AML is passed in exactly one term, up to the place where that stops.
+    ensures { has_aml signature ≡ true → 36 ≤ length table.now
+        → (headed : S) × IsPassed S.shows S.stops 36 (length table.now) headed show.new }
+{
     if has_aml(signature) && table.len() >= SdtHeader::MIN_LENGTH {
         walk_table(signature, &table[..SdtHeader::MIN_LENGTH], show);
         return show_objects(alloc, table, SdtHeader::MIN_LENGTH, show);

@@ -2,23 +2,17 @@
 //! The tables that an input has, with what their checks say.
 
 use crate::image_reader::MemoryImage;
-use crate::input::candidates::{check_file, rsdp_in};
-use crate::input::flaws::is_malformed;
+use crate::input::candidates::rsdp_in;
+use crate::input::checks::{check_at, check_bytes, check_rsdp, cut_to_length, looked_over};
 use crate::input::status::Status;
 use crate::input::tables::TableFile;
 use crate::rattle::alloc::{AllocError, Global};
 use crate::rattle::{Vec, vec};
 use crate::walk::out::Out;
 use crate::walk::walk::has_aml;
-use zacpi::base::bytes::byte_sum;
-use zacpi::bgrt::Bgrt;
 use zacpi::fadt::Fadt;
-use zacpi::hpet::HpetTable;
-use zacpi::madt::Madt;
-use zacpi::mcfg::Mcfg;
-use zacpi::sdt::{SdtHeader, Signature, field};
-use zacpi::spcr::Spcr;
-use zacpi::{AcpiError, AcpiResult, AcpiTable, AcpiTables, PhysicalRecord, facs_length};
+use zacpi::sdt::{SdtHeader, Signature};
+use zacpi::{AcpiError, AcpiResult, AcpiTables, PhysicalRecord};
 
 /// Where a table is.
 #[derive(Clone, Copy)]
@@ -77,7 +71,7 @@ impl<'a> Entry<'a> {
 }
 
 /// The signature that bytes begin with, if there are four.
-fn signature_of(bytes: &[u8]) -> Option<Signature> {
+pub(crate) fn signature_of(bytes: &[u8]) -> Option<Signature> {
     match bytes {
         [a, b, c, d, ..] => Some(Signature::from_bytes([*a, *b, *c, *d])),
         _ => None,
@@ -119,101 +113,6 @@ fn is_same(signature: Option<Signature>, letters: &[u8; 4]) -> bool {
     }
 }
 
-/// The bytes up to the length in the field at offset 4, and at least a header, as far as they are there.
-fn cut_to_length(lent: &[u8]) -> &[u8] {
-    let length = field(lent, 4, 4).max(36) as usize;
-    lent.get(..length).unwrap_or(lent)
-}
-
-/// The refusal of a table's bytes by the lookup of its type.
-fn check_typed<T: AcpiTable>(bytes: &[u8]) -> AcpiResult<()> {
-    if bytes.len() < T::MIN_LENGTH {
-        return Err(AcpiError::SdtInvalidLength(T::SIGNATURE));
-    }
-    T::read(bytes).validate(bytes)
-}
-
-/// The refusal of a table by the lookup of its signature, if there is one.
-fn check_lookup(signature: Signature, bytes: &[u8]) -> AcpiResult<()> {
-    match signature.as_str().unwrap_or("") {
-        "FACP" => check_typed::<Fadt>(bytes),
-        "APIC" => check_typed::<Madt>(bytes),
-        "HPET" => check_typed::<HpetTable>(bytes),
-        "MCFG" => check_typed::<Mcfg>(bytes),
-        "BGRT" => check_typed::<Bgrt>(bytes),
-        "SPCR" => check_typed::<Spcr>(bytes),
-        _ => Ok(()),
-    }
-}
-
-/// What the checks of section 5.2.6 say of a table that should have this signature, over the bytes that there are
-/// from its first one on. The error of a table that is cut is `cut`.
-fn check_header(lent: &[u8], signature: Signature, cut: AcpiError) -> Status {
-    if lent.len() < SdtHeader::MIN_LENGTH {
-        return Status::Refused(cut);
-    }
-    let header = SdtHeader::read(lent);
-    let length = header.length;
-    match header.validate(signature, lent) {
-        Ok(()) => match check_lookup(signature, cut_to_length(lent)) {
-            Ok(()) => Status::Valid,
-            Err(refusal) => Status::NoLookup(refusal),
-        },
-        Err(AcpiError::SdtInvalidLength(_)) if length as usize > lent.len() => {
-            Status::Cut { refusal: cut, has: lent.len(), length }
-        }
-        Err(AcpiError::SdtInvalidChecksum(signature)) => {
-            let is = lent.get(9).copied().unwrap_or(0);
-            let should = is.wrapping_sub(byte_sum(cut_to_length(lent)));
-            Status::WrongSum { signature, is, should }
-        }
-        Err(refusal) => Status::Refused(refusal),
-    }
-}
-
-/// What the checks say of a FACS (section 5.2.10), over the bytes that there are of it.
-fn check_facs(lent: &[u8], cut: AcpiError) -> Status {
-    let Some(signature) = signature_of(lent) else {
-        return Status::Refused(cut);
-    };
-    if lent.len() < 8 {
-        return Status::Refused(cut);
-    }
-    match facs_length(signature, field(lent, 4, 4) as u32) {
-        Ok(length) if length as usize > lent.len() => Status::Cut { refusal: cut, has: lent.len(), length },
-        Ok(_) => Status::Valid,
-        Err(refusal) => Status::Refused(refusal),
-    }
-}
-
-/// What the checks say of a table that should have this signature, over the bytes that there are from its first one on.
-fn check(lent: &[u8], signature: Signature, cut: AcpiError) -> Status {
-    if signature == Signature::FACS { check_facs(lent, cut) } else { check_header(lent, signature, cut) }
-}
-
-/// What there is to say of a table, over all bytes that are shown of it, after what the checks say.
-fn looked_over(alloc: Global, status: Status, bytes: &[u8]) -> Status {
-    if !matches!(status, Status::Valid) {
-        return status;
-    }
-    let over = bytes.len().saturating_sub(field(bytes, 4, 4) as usize);
-    if over > 0 && !bytes.starts_with(b"RSD PTR ") {
-        Status::Longer(over)
-    } else if is_malformed(alloc, bytes) {
-        Status::Malformed
-    } else {
-        status
-    }
-}
-
-/// What the checks of section 5.2.5.3 say of an RSDP.
-fn check_rsdp(bytes: &[u8]) -> Status {
-    match check_file(bytes) {
-        Ok(()) => Status::Valid,
-        Err(refusal) => Status::Refused(refusal),
-    }
-}
-
 /// The RSDP at an address of a memory, in the way of a table.
 pub fn rsdp_at<'i>(image: &MemoryImage<'i>, address: u64) -> Entry<'i> {
     let bytes = rsdp_in(bytes_from(image, address));
@@ -227,12 +126,7 @@ fn entry_of_file(alloc: Global, file: &TableFile) -> Entry<'_> {
         Some(address) => Place::Address(address),
         None => Place::File(file.name.as_str()),
     };
-    let signature = own_signature(lent);
-    let status = if lent.starts_with(b"RSD PTR ") {
-        check_rsdp(lent)
-    } else {
-        check(lent, signature, AcpiError::SdtInvalidLength(signature))
-    };
+    let status = if lent.starts_with(b"RSD PTR ") { check_rsdp(lent) } else { check_bytes(lent) };
     Entry { place, sought: None, bytes: lent, status: looked_over(alloc, status, lent) }
 }
 
@@ -269,18 +163,13 @@ pub fn bytes_from<'i>(image: &MemoryImage<'i>, address: u64) -> &'i [u8] {
 /// The table at an address, checked under the signature that it should have, or under its own.
 pub fn entry_at<'i>(alloc: Global, image: &MemoryImage<'i>, address: u64, sought: Option<Signature>) -> Entry<'i> {
     let lent = bytes_from(image, address);
-    let own = own_signature(lent);
-    let status = match sought {
-        Some(_) if lent.is_empty() => Status::NotHere,
-        Some(signature) => check(lent, signature, AcpiError::MapFailed),
-        None => check_header(lent, own, AcpiError::MapFailed),
-    };
     let bytes = cut_to_length(lent);
+    let status = check_at(image, address, sought, lent);
     Entry { place: Place::Address(address), sought, bytes, status: looked_over(alloc, status, bytes) }
 }
 
 /// The table that a FADT leads to, or its refusal to say where.
-fn entry_pointed_to<'i>(
+fn entry_led_to<'i>(
     alloc: Global,
     image: &MemoryImage<'i>,
     address: AcpiResult<u64>,
@@ -294,25 +183,10 @@ fn entry_pointed_to<'i>(
     }
 }
 
-/// The tables that a valid FADT leads to, if one is listed: the DSDT and the FACS, each by its address and signature. A
-/// machine of reduced hardware needn't have a FACS: both fields of its address are 0 then (section 5.2.9).
-fn fadt_pointers(tables: &AcpiTables<'_, MemoryImage<'_>>) -> [Option<(AcpiResult<u64>, Signature)>; 2] {
-    let Ok(fadt) = &tables.find_table::<Fadt>() else {
-        return [None, None];
-    };
-    let fadt = fadt.get();
-    let dsdt = Some((fadt.dsdt_address(), Signature::DSDT));
-    match fadt.facs_address() {
-        Err(_) if fadt.flags.system_is_hw_reduced_acpi() => [dsdt, None],
-        address => [dsdt, Some((address, Signature::FACS))],
-    }
-}
-
-/// The tables that a memory has: the root table, its members, and, if a valid FADT is listed, the DSDT and the FACS
-/// that it leads to.
+/// The root table, and each table that it lists, once for each of its pointers.
 ///
 /// Fails if memory runs out.
-pub fn entries_of<'i>(
+fn entries_listed<'i>(
     alloc: Global,
     image: &MemoryImage<'i>,
     tables: &AcpiTables<'_, MemoryImage<'_>>,
@@ -321,11 +195,44 @@ pub fn entries_of<'i>(
     for address in tables.addresses() {
         entries.push(entry_at(alloc, image, address, None))?;
     }
-    for pointer in &fadt_pointers(tables) {
-        let Some((address, signature)) = *pointer else {
-            continue;
-        };
-        entries.push(entry_pointed_to(alloc, image, address, signature))?;
+    Ok(entries)
+}
+
+/// Whether a FADT leads to a FACS. A machine of reduced hardware needn't have one: both fields of its address are 0
+/// then (section 5.2.9).
+fn has_facs(fadt: &Fadt) -> bool {
+    fadt.facs_address().is_ok() || !fadt.flags.system_is_hw_reduced_acpi()
+}
+
+/// Adds the tables that a FADT leads to.
+///
+/// Fails if memory runs out.
+fn push_led_to<'i>(
+    entries: &mut Vec<Entry<'i>>,
+    alloc: Global,
+    image: &MemoryImage<'i>,
+    fadt: &Fadt,
+) -> Result<(), AllocError> {
+    entries.push(entry_led_to(alloc, image, fadt.dsdt_address(), Signature::DSDT))?;
+    if !has_facs(fadt) {
+        return Ok(());
     }
+    Ok(entries.push(entry_led_to(alloc, image, fadt.facs_address(), Signature::FACS))?)
+}
+
+/// The tables that a memory has: the root table, each that it lists, once for each of its pointers, and, if a valid FADT
+/// is listed, the DSDT and the FACS that the first one leads to.
+///
+/// Fails if memory runs out.
+pub fn entries_of<'i>(
+    alloc: Global,
+    image: &MemoryImage<'i>,
+    tables: &AcpiTables<'_, MemoryImage<'_>>,
+) -> Result<Vec<Entry<'i>>, AllocError> {
+    let mut entries = entries_listed(alloc, image, tables)?;
+    let Ok(fadt) = &tables.find_table::<Fadt>() else {
+        return Ok(entries);
+    };
+    push_led_to(&mut entries, alloc, image, fadt.get())?;
     Ok(entries)
 }

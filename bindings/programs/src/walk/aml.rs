@@ -280,7 +280,7 @@ fn show_object<S: ShowObjects>(table: &[u8], at: usize, scopes: &mut Scopes, sho
         _ => {
             scopes.letters.truncate(start);
             if let Some(units) = found.units {
-                show_units(aml.get(..found.end).unwrap_or(aml), units, scopes, show)?;
+                show_units(&aml[..found.end], units, scopes, show)?;
             }
             Ok(found.end)
         }

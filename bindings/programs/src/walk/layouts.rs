@@ -67,6 +67,10 @@ pub fn title_of(signature: Signature) -> &'static str {
 /// the header: none if no text has it. A FACS and an RSDP have no header: these are then all of its lines.
 pub(crate) fn layout_of(signature: Signature) -> (Blocks, Block) {
     let name = signature.as_str().unwrap_or("").trim_ascii_end();
+    // No text has a table of AML, which is walked more often than others.
+    if TITLES.iter().any(|row| row.0 == name) {
+        return (Blocks::read(""), Block::NONE);
+    }
     for text in &texts() {
         // Reading a text takes far longer than looking for a name in it.
         if !text.contains(name) {

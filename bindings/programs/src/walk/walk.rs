@@ -73,12 +73,9 @@ pub trait ShowObjects: Show {
     fn ends(&mut self, offset: u64, why: Ends);
 }
 
-/// The tables whose bytes after the header are AML (section 5.2.11).
-const AML_TABLES: [Signature; 3] = [Signature::DSDT, Signature::SSDT, Signature::PSDT];
-
-/// Whether tables of a signature have AML after the header.
+/// Whether tables of a signature have AML after the header (section 5.2.11).
 pub fn has_aml(signature: Signature) -> bool {
-    AML_TABLES.contains(&signature)
+    signature == Signature::DSDT || signature == Signature::SSDT || signature == Signature::PSDT
 }
 
 /// Shows a table by its layout, and in place of the bytes of AML the objects that it defines.

@@ -1,5 +1,5 @@
 //! The units of a field: the list that follows its flags (section 20.2.5.2).
-ghost use Rattle.std.specs.Prelude.{◌<◌, ◌≤◌, length, IfOk};
+ghost use Rattle.std.specs.Prelude.{◌<◌, ◌≤◌, length, IfOk, IfSome};
 
 use crate::fields::number_of;
 use acpi_sleep::AmlError;
@@ -17,7 +17,8 @@ pub struct Unit {
 /// The unit at an offset.
 pub fn unit_at(aml: &[u8], at: usize) -> Result<Unit, AmlError>
     requires { at < length aml.now }
-    ensures { IfOk result (λ unit. at < unit.end) }
+    ensures after { IfOk result (λ unit. at < unit.end) }
+    ensures within { IfOk result (λ unit. IfSome unit.name (λ name. unit.end ≤ length aml.now)) }
 {
     let (mut name, mut bits) = (None, 0);
     let end = match aml[at] {
@@ -52,7 +53,8 @@ pub fn unit_at(aml: &[u8], at: usize) -> Result<Unit, AmlError>
 /// The number of bits that a PkgLength at an offset contains, and where it ends (section 20.2.4).
 fn bits_at(aml: &[u8], at: usize) -> Result<(u64, usize), AmlError>
     requires { at ≤ length aml.now }
-    ensures { IfOk result (λ r. at < r.1) }
+    ensures after { IfOk result (λ r. at < r.1) }
+    ensures within { IfOk result (λ r. r.1 ≤ length aml.now) }
 {
     let lead = aml.get(at).ok_or(AmlError::PastEnd(at))?;
     let end = at + 1 + *lead as usize / 64;
