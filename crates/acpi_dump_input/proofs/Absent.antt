@@ -1,5 +1,5 @@
 -- Where a memory has no byte, it has no table.
-use Rattle.std.proofs.Common.{◌≡◌, ℕ, Bool, true, false, List, [], ◌∷◌, length, Option, Some, Result, Ok, Err, arith, refl, sym, ◌∙◌}
+use Rattle.std.proofs.Common.{◌≡◌, ℕ, Bool, true, false, List, [], ◌∷◌, length, Option, Some, Result, Err, arith, refl, sym, ◌∙◌}
 use Rattle.std.specs.Prelude.{bytes_eq, if◌then◌else◌}
 use Rattle.acpi.specs.Types.{AcpiError, FACS, MapFailed, Signature}
 use Rattle.acpi_base.specs.Words.{Kind, Memory, at, plain_kind, rest_from, table_at}

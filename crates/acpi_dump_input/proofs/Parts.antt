@@ -86,7 +86,8 @@ module _ (rs : List Record) (m : Memory) (i a : ℕ) (same : regions_of rs ≡ m
       is ∙ sym (so_far ∙ ap (λ (x : Memory). rest_from x a) left ∙ first_rest r (drop (suc i) m) a low (rw is at some))
 
   rest_later : (d : Record) → i < length rs
-      → ((slice_index_or rs i d).start ≤ a → length (drop (a - (slice_index_or rs i d).start) (slice_index_or rs i d).bytes.now) ≡ 0)
+      → ((slice_index_or rs i d).start ≤ a
+      → length (drop (a - (slice_index_or rs i d).start) (slice_index_or rs i d).bytes.now) ≡ 0)
       → rest_from m a ≡ rest_from (drop (i + 1) m) a
   rest_later d less none =
       let r = region_of (slice_index_or rs i d) in

@@ -1,5 +1,5 @@
--- The tables that a memory is shown to have: each that its root table lists, and those that its FADT leads to, with what
--- the checks of each return.
+-- The tables that a memory is shown to have: each that its root table lists, and those that its FADT leads to, with
+-- what the checks of each return.
 use Rattle.std.specs.Prelude.{ℕ, ◌||◌, Bool, List, [], ◌∷◌, ◌++◌, Option, Some, None, Result, Ok, Err, bytes_eq, if◌then◌else◌, is_ok, length, map, max, nat_le, not, take}
 use Rattle.acpi_base.specs.Words.{◌>>=◌, Memory, field_of, holds, own_table_at, part, plain_kind, rest_from, table_at}
 use Rattle.acpi.specs.Types.{AcpiError, DSDT, FACS, Fadt, MapFailed, SdtInvalidChecksum, Signature}
@@ -13,8 +13,8 @@ use Rattle.acpi_dump_input.specs.declared.entries.Place.TheVariants as place
 use Rattle.acpi_dump_input.specs.declared.status.Status.{Status}
 use Rattle.acpi_dump_input.specs.declared.status.Status.TheVariants as status
 
--- what the checks of a table return by its status: one that is valid by its header and its sum stays so where its type's
--- lookup fails, bytes follow it, or a part of it doesn't match its layout
+-- what the checks of a table return by its status: one that is valid by its header and its sum stays so where its
+-- type's lookup fails, bytes follow it, or a part of it doesn't match its layout
 abbrev pub checked_of : Status → Result (Unit {0}) AcpiError
 checked_of status.Valid = Ok tt
 checked_of (status.NoLookup error) = Ok tt
@@ -49,8 +49,8 @@ checked_as m (Some s) p =
 
 -- ---- what is listed
 
--- a table as it is listed: where it is, the signature that it should have if that is known, its bytes as far as they are
--- there, and what its checks return
+-- a table as it is listed: where it is, the signature that it should have if that is known, its bytes as far as they
+-- are there, and what its checks return
 pub record Listed : Type 0 where
   pub place : Place
   pub sought : Option Signature

@@ -295,8 +295,8 @@ fn push_led_to<'i>(
     Ok(entries.push(entry_led_to(alloc, image, fadt.facs_address(), Signature::FACS))?)
 }
 
-/// The tables that a memory has: the root table, each that it lists, once for each of its pointers, and, if a valid FADT
-/// is listed, the DSDT and the FACS that the first one leads to.
+/// The tables that a memory has: the root table, each that it lists, once for each of its pointers, and, if a valid
+/// FADT is listed, the DSDT and the FACS that the first one leads to.
 ///
 /// Fails if memory runs out.
 pub fn entries_of<'i>(

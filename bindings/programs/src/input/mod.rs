@@ -3,8 +3,8 @@
 //! and how these are saved as files.
 //!
 //! Every function returns for every input, without fault. The tables of acpidump's and acpiview's text are exact by
-//! a definition, and so are those of a memory, each with the error of the library's own lookup. What is saved is the bytes
-//! that are given, in the folder or under the name that is given.
+//! a definition, and so are those of a memory, each with the error of the library's own lookup. What is saved is the
+//! bytes that are given, in the folder or under the name that is given.
 
 #![forbid(unsafe_code)]
 // What contracts alone use.

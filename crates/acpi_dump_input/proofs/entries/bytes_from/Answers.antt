@@ -1,4 +1,4 @@
-use Rattle.std.proofs.Common.{◌≡◌, ◌<◌, ◌≤◌, length, arith, rules}
+use Rattle.std.proofs.Common.{◌≡◌, ◌<◌, length, arith}
 use Rattle.acpi_image_reader.specs.Words.{memory_of}
 use Rattle.acpi_dump_input.proofs.Parts.{is_rest, rest_begins, rest_ends, rest_is, rest_none}
 use Rattle.acpi_dump_input.proofs.entries.bytes_from.Goals as goal

@@ -1,6 +1,6 @@
 use Rattle.std.proofs.Common.{◌≡◌, drop}
 use Rattle.acpi_base.specs.Words.{rest_from}
-use Rattle.acpi_image_reader.specs.Words.{memory_of, regions_of}
+use Rattle.acpi_image_reader.specs.Words.{memory_of}
 use Rattle.acpi_dump_input.proofs.entries.bytes_from.Given as goal
 
 -- no record so far has the address

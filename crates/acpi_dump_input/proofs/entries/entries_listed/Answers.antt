@@ -1,4 +1,4 @@
-use Rattle.std.proofs.Common.{None, ◌<◌, length, arith}
+use Rattle.std.proofs.Common.{None, arith}
 use Rattle.acpi_image_reader.specs.Words.{memory_of}
 use Rattle.acpi_dump_input.proofs.Listing.{listed_more, parts_more}
 use Rattle.acpi_dump_input.specs.Listed.{listed_at}

@@ -1,4 +1,4 @@
-use Rattle.std.proofs.Common.{◌≡◌, ◌≤◌, arith, refl}
+use Rattle.std.proofs.Common.{◌≤◌, arith, refl}
 use Rattle.std.proofs.lemmas.List.{length-take}
 use Rattle.acpi_dump_walk.proofs.Passed.{begun, if_err, only_begun, whole_term}
 use Rattle.acpi_dump_walk.proofs.aml.show_object.Goals as goal
