@@ -39,7 +39,7 @@ fn main() -> std::io::Result<()> {
     for (option, words) in WORDS {
         command = command.mut_arg(option, |arg| arg.value_parser(words.to_vec()));
     }
-    let names: Vec<_> = acpi_dump::check::rules::all().map(|rule| rule.id).collect();
+    let names = acpi_dump::rules();
     // Of these the value may be missing. What stands for it then has to be a word, and no shell completes it.
     command = command.mut_arg("check", |arg| arg.default_missing_value("note"));
     command = command.mut_arg("rules", |arg| arg.value_parser(names).default_missing_value("header-sum"));

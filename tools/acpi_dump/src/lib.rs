@@ -3,26 +3,25 @@
 //! What reads tables is `acpi_programs`, which is proved. The library is there only for the program, its tests and
 //! what makes the completions: its functions aren't an interface.
 
-mod arguments;
-pub mod check;
+mod check;
 mod compare;
-pub mod dump;
+mod document;
+mod dump;
 #[cfg(feature = "fleet")]
 mod fleet;
-mod json;
 mod page;
+mod prelude;
 mod summary;
 mod text;
 
-/// The status of acpi_dump, if the words after its name request a fleet.
-pub fn fleet_status(_words: &[&str]) -> Option<u8> {
-    #[cfg(feature = "fleet")]
-    return fleet::status(_words);
-    #[cfg(not(feature = "fleet"))]
-    None
-}
+pub use dump::run::run;
 
 /// The options, for what completes them.
 pub fn options() -> clap::Command {
-    dump::options::command()
+    dump::arguments::command()
+}
+
+/// The ids of the rules.
+pub fn rules() -> Vec<&'static str> {
+    check::rules::all().map(|rule| rule.id).collect()
 }

@@ -1,11 +1,8 @@
 //! The objects of AML that a table has.
 
+use super::outline::{BYTES, Part, Side};
 use super::pairs::Key;
-use crate::compare::outline::{BYTES, Part, Side};
-use acpi_programs::walk::language::size;
-use acpi_programs::walk::out::Out;
-use zacpi::PhysicalRecord;
-use zacpi::sdt::SdtHeader;
+use crate::prelude::*;
 
 /// The path of the root.
 const ROOT: &str = "\\";
@@ -13,54 +10,37 @@ const ROOT: &str = "\\";
 /// An object, or bytes that no object has: where it is, its length, its own bytes, what it is, its path and its value.
 /// One without a path has that of the last one before it that has one, after a word.
 #[derive(Clone, Copy)]
-pub struct Known<'a> {
+pub(crate) struct Known<'a> {
     pub(super) offset: u64,
     pub(super) length: u64,
     pub(super) own: &'a [u8],
     pub(super) kind: &'static str,
     word: &'static str,
-    path: &'a str,
+    pub(super) path: &'a str,
     pub(super) value: &'a str,
 }
 
-impl<'a> Known<'a> {
-    /// Its path.
-    pub(super) fn path(&self) -> &'a str {
-        self.path
-    }
-
+impl Known<'_> {
     /// Between which offsets of its table its own bytes are, if they are at its end: a method's code.
     pub(super) fn code(&self) -> (usize, usize) {
         let end = size(self.offset.saturating_add(self.length));
         (end.saturating_sub(self.own.len()), end)
     }
 
-    /// Prints its path.
-    pub(super) fn print_path(self, out: &mut Out) {
-        out.text(self.word);
-        out.text(self.path)
+    pub(super) fn whole_path(self) -> String {
+        format!("{}{}", self.word, self.path)
     }
 
-    /// Prints its length and its value.
-    pub(super) fn print_value(self, out: &mut Out) {
-        out.words("% bytes", &[self.length]);
-        out.text(self.value)
-    }
-
-    /// Prints all of it.
-    pub(super) fn print(self, out: &mut Out) {
-        out.text(self.kind);
-        out.text(" ");
-        self.print_path(out);
-        out.text("  ");
-        self.print_value(out)
+    /// Its length and its value.
+    pub(super) fn whole_value(self) -> String {
+        format!("{} bytes{}", self.length, self.value)
     }
 }
 
 /// The objects of a table in the order of its bytes, and between them the bytes that no object has.
-pub(super) struct Objects<'a> {
+struct Objects<'a> {
     side: Side<'a>,
-    pub(super) known: Vec<Known<'a>>,
+    known: Vec<Known<'a>>,
     /// The path of the last object that has one.
     last: &'a str,
     /// Up to where the bytes are those of objects, or kept as bytes that none has.
@@ -69,34 +49,31 @@ pub(super) struct Objects<'a> {
 
 impl<'a> Objects<'a> {
     /// Adds what has no path of its own, or an object up to its path and its value.
-    fn add(&mut self, extent: (u64, u64), own: (u64, u64), kind: &'static str) {
-        let known = Known {
-            offset: extent.0,
-            length: extent.1,
+    fn add(&mut self, offset: u64, length: u64, own: (u64, u64), kind: &'static str) {
+        self.known.push(Known {
+            offset,
+            length,
             own: self.side.bytes(own.0, own.1.saturating_sub(own.0)),
             kind,
             word: if self.last == ROOT { "in " } else { "after " },
             path: self.last,
             value: "",
-        };
+        });
         self.shown = own.1;
-        self.known.push(known);
     }
 
     /// Adds the bytes up to an offset that no object has.
     fn add_bytes(&mut self, end: u64) {
         if self.shown < end {
-            self.add((self.shown, end - self.shown), (self.shown, end), BYTES)
+            self.add(self.shown, end - self.shown, (self.shown, end), BYTES);
         }
     }
 
     /// Adds an object whose own bytes are between two offsets.
     fn add_object(&mut self, part: &Part, own: (u64, u64)) {
         self.add_bytes(part.offset);
-        self.add((part.offset, part.length), own, part.name);
-        if let Some(item) = self.side.items.get(part.first)
-            && let Some(known) = self.known.last_mut()
-        {
+        self.add(part.offset, part.length, own, part.name);
+        if let (Some(item), Some(known)) = (self.side.items.get(part.first), self.known.last_mut()) {
             known.value = self.side.rest(item);
             if part.id.is_some() {
                 self.last = self.side.digits(item);
@@ -104,20 +81,18 @@ impl<'a> Objects<'a> {
             }
         }
     }
+}
 
-    /// By what the objects are paired: their paths, what they are, and their order.
-    pub(super) fn keys(&self) -> Vec<Key<'a>> {
-        let mut keys = Vec::new();
-        for (place, known) in self.known.iter().enumerate() {
-            keys.push((known.word.len(), known.path, known.kind, "", place));
-        }
-        keys.sort();
-        keys
-    }
+/// By what objects are paired: their paths, what they are, and their order.
+pub(super) fn keys_of<'a>(objects: &[Known<'a>]) -> Vec<Key<'a>> {
+    let key = |(place, known): (usize, &Known<'a>)| (known.word.len(), known.path, known.kind, "", place);
+    let mut keys: Vec<_> = objects.iter().enumerate().map(key).collect();
+    keys.sort_unstable();
+    keys
 }
 
 /// The objects of a table: none, unless it has AML.
-pub(super) fn objects_of<'a>(side: Side<'a>) -> Objects<'a> {
+pub(super) fn objects_of(side: Side<'_>) -> Vec<Known<'_>> {
     let mut objects = Objects { side, known: Vec::new(), last: ROOT, shown: SdtHeader::MIN_LENGTH as u64 };
     for part in side.parts {
         if let Some(own) = part.own {
@@ -131,5 +106,5 @@ pub(super) fn objects_of<'a>(side: Side<'a>) -> Objects<'a> {
     if side.has_objects() {
         objects.add_bytes(side.table.len() as u64);
     }
-    objects
+    objects.known
 }

@@ -1,26 +1,24 @@
 //! What differs between two inputs, by the outline of a table: its structures and fields, and the objects of AML.
 
-pub mod code;
+pub(crate) mod code;
+mod items;
 mod known;
 mod objects;
-pub mod outline;
+pub(crate) mod outline;
 mod pairs;
 mod pieces;
 
-use crate::compare::outline::{Side, items_of};
-use crate::text::granted;
-use acpi_programs::code::Known as Names;
-use acpi_programs::input::entries::{Entry, print_name};
-use acpi_programs::rattle::alloc::Global;
-use acpi_programs::walk::out::Out;
-use code::{Code, names_in};
+use crate::prelude::*;
+use code::{CodeLine, names_in};
 use known::Known;
-use objects::changes_of;
+use objects::add_changes;
+use outline::{MALFORMED, Side, items_of};
 use pairs::pairs_of;
+use std::borrow::Cow;
 
 /// What a structure or an object is called.
 #[derive(Clone, Copy)]
-pub enum Title<'a> {
+pub(crate) enum Title<'a> {
     /// As the table has the structure of a number.
     Structure(Side<'a>),
     /// By its path.
@@ -29,51 +27,43 @@ pub enum Title<'a> {
     Alone(Known<'a>),
 }
 
-impl Title<'_> {
-    /// Prints it, of the structure of this number.
-    pub fn print_path(self, part: usize, out: &mut Out) {
-        match self {
-            Title::Structure(side) => side.print_path(part, out),
-            Title::Object(object) => object.print_path(out),
-            Title::Alone(object) => object.print(out),
-        }
-    }
-}
-
 /// A difference: the structure or object that it is in, where it is, the name of the field or what the object is, which
 /// is empty if one input alone has the structure or object, and the values in the two inputs, if they have it.
-#[derive(Clone, Copy)]
-pub struct Difference<'a> {
-    pub side: Title<'a>,
-    pub part: usize,
-    pub offset: u64,
-    pub name: &'a str,
-    pub old: Option<&'a str>,
-    pub new: Option<&'a str>,
+pub(crate) struct Difference<'a> {
+    title: Title<'a>,
+    pub(crate) part: usize,
+    pub(crate) offset: u64,
+    pub(crate) name: Cow<'a, str>,
+    pub(crate) old: Option<Cow<'a, str>>,
+    pub(crate) new: Option<Cow<'a, str>>,
     /// The number of the field in the first table, if it has it.
-    pub was: Option<usize>,
+    pub(crate) was: Option<usize>,
     /// The number of the field or of the structure in the second table, if it has it.
-    pub place: Option<usize>,
+    pub(crate) place: Option<usize>,
     /// The lines of a method that differ.
-    pub code: Code<'a>,
+    pub(crate) code: Vec<CodeLine>,
 }
 
-/// Of the items that are left on two sides the numbers of those that come now: of the first one, or of both if they are
-/// the same field.
-fn next_pair(old: Side<'_>, a: Option<usize>, new: Side<'_>, b: Option<usize>) -> (Option<usize>, Option<usize>) {
-    match (old.item(a), new.item(b)) {
-        (Some(one), Some(other)) if one.within == other.within && one.name == other.name => (a, b),
-        (Some(one), Some(other)) if one.within <= other.within => (a, None),
-        (Some(_), None) => (a, None),
-        _ => (None, b),
+impl<'a> Difference<'a> {
+    fn of(title: Title<'a>) -> Difference<'a> {
+        let (part, offset, name, old, new) = (0, 0, Cow::Borrowed(""), None, None);
+        Difference { title, part, offset, name, old, new, was: None, place: None, code: Vec::new() }
+    }
+
+    /// What the structure or object is called, unless it is all of the table.
+    pub(crate) fn structure(&self) -> Option<String> {
+        (self.part > 0).then(|| match self.title {
+            Title::Structure(side) => side.path_of(self.part),
+            Title::Object(object) => object.whole_path(),
+            Title::Alone(object) => format!("{} {}  {}", object.kind, object.whole_path(), object.whole_value()),
+        })
     }
 }
 
-/// The differences between two tables, as they are found.
+/// The differences between two tables, as they are found, without the fields whose names are ignored.
 struct Found<'a, 'i, 's> {
     old: Side<'a>,
     new: Side<'a>,
-    /// The names of the fields that are left out.
     ignored: &'i [&'s str],
     differences: Vec<Difference<'a>>,
 }
@@ -86,41 +76,31 @@ impl<'a> Found<'a, '_, '_> {
             && (old != new || self.old.hidden(was) != self.new.hidden(place))
             && !self.ignored.contains(&item.name)
         {
-            self.push(Difference {
-                side: Title::Structure(self.old),
-                part,
-                offset: item.offset,
-                name: item.name,
-                old,
-                new,
-                was,
-                place,
-                code: Code::NONE,
-            })
+            let (old, new, name) = (old.map(Cow::Borrowed), new.map(Cow::Borrowed), item.name.into());
+            let difference = Difference::of(Title::Structure(self.old));
+            self.differences.push(Difference { part, offset: item.offset, name, old, new, was, place, ..difference });
         }
-    }
-
-    /// Adds a difference.
-    fn push(&mut self, difference: Difference<'a>) {
-        self.differences.push(difference);
     }
 
     /// Adds the fields that differ between two structures, in the order of their offsets.
     fn add_fields(&mut self, part: usize, other: usize) {
-        let mut old = self.old.next_item(part, 0);
-        let mut new = self.new.next_item(other, 0);
-        for _ in 0..self.old.items.len() + self.new.items.len() {
-            let (a, b) = next_pair(self.old, old, self.new, new);
-            if a.or(b).is_none() {
-                break;
-            }
+        let items = |side: Side<'a>, part| {
+            let places = side.places(part);
+            places.filter(move |place| side.items[*place].part == part && side.items[*place].name != MALFORMED)
+        };
+        let (mut old, mut new) = (items(self.old, part).peekable(), items(self.new, other).peekable());
+        while old.peek().is_some() || new.peek().is_some() {
+            let (one, other) = (old.peek().copied(), new.peek().copied());
+            // Those that come now: of the first table, or of both if they are the same field.
+            let (a, b) = match (self.old.item(one), self.new.item(other)) {
+                (Some(a), Some(b)) if a.within == b.within && a.name == b.name => (one, other),
+                (Some(a), Some(b)) if a.within <= b.within => (one, None),
+                (Some(_), None) => (one, None),
+                _ => (None, other),
+            };
             self.add(part, a, b);
-            if let Some(place) = a {
-                old = self.old.next_item(part, place + 1);
-            }
-            if let Some(place) = b {
-                new = self.new.next_item(other, place + 1);
-            }
+            a.and_then(|_| old.next());
+            b.and_then(|_| new.next());
         }
     }
 
@@ -128,37 +108,29 @@ impl<'a> Found<'a, '_, '_> {
     fn add_alone(&mut self, is_first: bool, part: usize) {
         let (side, old, new, place) =
             if is_first { (self.old, Some(""), None, None) } else { (self.new, None, Some(""), Some(part)) };
-        self.push(Difference {
-            side: Title::Structure(side),
-            part,
-            offset: side.offset(part),
-            name: "",
-            old,
-            new,
-            was: None,
-            place,
-            code: Code::NONE,
-        })
+        let (old, new, offset) = (old.map(Cow::Borrowed), new.map(Cow::Borrowed), side.parts[part].offset);
+        self.differences.push(Difference { part, offset, old, new, place, ..Difference::of(Title::Structure(side)) });
     }
+}
 
-    /// Adds all differences: of the structures of the first table in their order, and then those that the second one
-    /// alone has.
-    fn add_all(&mut self) {
-        let (old, new) = (self.old, self.new);
-        let pairs = pairs_of(old, new);
-        for part in 0..old.parts.len() {
-            if let Some(other) = pairs.other(part) {
-                self.add_fields(part, other);
-            } else if pairs.is_gone(old, part) {
-                self.add_alone(true, part);
-            }
-        }
-        for part in 0..new.parts.len() {
-            if pairs.is_added(new, part) {
-                self.add_alone(false, part);
-            }
+/// The differences between the structures and items of two tables: of the structures of the first table in their order,
+/// and then those that the second one alone has.
+pub(crate) fn differences<'a>(old: Side<'a>, new: Side<'a>, ignored: &[&str]) -> Vec<Difference<'a>> {
+    let mut found = Found { old, new, ignored, differences: Vec::new() };
+    let pairs = pairs_of(old, new);
+    for part in 0..old.parts.len() {
+        if let Some(other) = pairs.other(part) {
+            found.add_fields(part, other);
+        } else if pairs.is_gone(old, part) {
+            found.add_alone(true, part);
         }
     }
+    for part in 0..new.parts.len() {
+        if pairs.is_added(new, part) {
+            found.add_alone(false, part);
+        }
+    }
+    found.differences
 }
 
 /// Whether a table is the same in two inputs, as far as its letters say: its signature and, of an SSDT, its OEM table
@@ -170,25 +142,14 @@ fn is_alike(one: &Entry<'_>, other: &Entry<'_>) -> bool {
 
 /// The number of the table of another input that is the same as one by its letters, and by how many with these stand
 /// before it.
-pub fn same_in(entries: &[Entry<'_>], index: usize, others: &[Entry<'_>]) -> Option<usize> {
-    let wanted = entries.get(index)?;
-    let mut before = 0usize;
-    for entry in entries.get(..index)? {
-        before += is_alike(entry, wanted) as usize;
-    }
-    for (number, other) in others.iter().enumerate() {
-        if is_alike(other, wanted) {
-            if before == 0 {
-                return Some(number);
-            }
-            before -= 1;
-        }
-    }
-    None
+pub(crate) fn same_in(entries: &[Entry<'_>], index: usize, others: &[Entry<'_>]) -> Option<usize> {
+    let wanted = &entries[index];
+    let before = entries[..index].iter().filter(|entry| is_alike(entry, wanted)).count();
+    (0..others.len()).filter(|number| is_alike(&others[*number], wanted)).nth(before)
 }
 
 /// What the differences between two inputs are shown to.
-pub trait ShowDifferences {
+pub(crate) trait ShowDifferences {
     /// Shows a table that is in one input alone, the first or else the second.
     fn alone(&mut self, is_first: bool, entry: &Entry<'_>);
 
@@ -197,114 +158,90 @@ pub trait ShowDifferences {
 }
 
 /// Differences as lines of text: the names of the two inputs, and where the lines are written to.
-pub struct DifferenceLines<'a> {
-    pub names: (&'a str, &'a str),
-    pub out: &'a mut Out,
+pub(crate) struct DifferenceLines<'a> {
+    pub(crate) names: (&'a str, &'a str),
+    pub(crate) out: &'a mut Out,
+}
+
+impl DifferenceLines<'_> {
+    /// Prints which of two inputs alone has what comes next.
+    fn print_only(&mut self, is_first: bool) {
+        self.out.text("only in ");
+        self.out.escaped(if is_first { self.names.0 } else { self.names.1 }.as_bytes());
+        self.out.text(": ");
+    }
+
+    /// Prints a field that differs, within a structure by two blanks more.
+    fn print_field(&mut self, difference: &Difference<'_>) {
+        let Difference { offset, name, old, new, .. } = difference;
+        let indent = if difference.part > 0 { "    " } else { "  " };
+        let [old, new] = [old, new].map(|value| value.as_deref().unwrap_or("none"));
+        writeln!(self.out, "{indent}{offset:04x}  {name:<38}  {old} -> {new}");
+        difference.code.iter().for_each(|line| line.print(self.out));
+    }
 }
 
 impl ShowDifferences for DifferenceLines<'_> {
     fn alone(&mut self, is_first: bool, entry: &Entry<'_>) {
-        print_only(is_first, self.names, self.out);
+        self.print_only(is_first);
         print_name(entry, self.out);
         self.out.text("\n");
     }
 
+    /// Prints differences under the tables' names, and those within a structure under what that is called.
     fn pair(&mut self, old: &Entry<'_>, new: &Entry<'_>, found: &[Difference<'_>]) {
-        print_found(old, new, found, self.names, self.out)
-    }
-}
-
-/// Prints which of two inputs alone has what comes next.
-fn print_only(is_first: bool, names: (&str, &str), out: &mut Out) {
-    out.text("only in ");
-    out.escaped(if is_first { names.0 } else { names.1 }.as_bytes());
-    out.text(": ");
-}
-
-/// Prints differences between two tables, under their names, and those within a structure under what that is called.
-fn print_found(old: &Entry<'_>, new: &Entry<'_>, found: &[Difference<'_>], names: (&str, &str), out: &mut Out) {
-    print_name(old, out);
-    out.text(" and ");
-    print_name(new, out);
-    out.text("\n");
-    let mut part = 0usize;
-    for difference in found {
-        if difference.name.is_empty() {
-            out.text("  ");
-            print_only(difference.old.is_some(), names, out);
-            difference.side.print_path(difference.part, out);
-            out.text("\n");
-        } else {
+        print_name(old, self.out);
+        self.out.text(" and ");
+        print_name(new, self.out);
+        self.out.text("\n");
+        let mut part = 0;
+        for difference in found {
+            let structure = || difference.structure().unwrap_or_default();
+            if difference.name.is_empty() {
+                self.out.text("  ");
+                self.print_only(difference.old.is_some());
+                writeln!(self.out, "{}", structure());
+                continue;
+            }
             if difference.part != part {
                 part = difference.part;
-                out.text("  ");
-                difference.side.print_path(part, out);
-                out.text("\n");
+                writeln!(self.out, "  {}", structure());
             }
-            print_difference(difference, out);
-            difference.code.print(out);
+            self.print_field(difference);
         }
     }
-}
-
-/// Prints a field that differs, within a structure by two blanks more.
-fn print_difference(difference: &Difference<'_>, out: &mut Out) {
-    let (offset, name) = (difference.offset, difference.name);
-    if difference.part > 0 {
-        out.text("  ");
-    }
-    write!(out, "  {offset:04x}  {name:<38}  ");
-    let values = [difference.old.unwrap_or("none"), difference.new.unwrap_or("none")];
-    out.fill("$ -> $\n", &values);
-}
-
-/// The differences between the structures and items of two tables, less the fields whose names are ignored.
-pub fn differences<'a>(old: Side<'a>, new: Side<'a>, ignored: &[&str]) -> Vec<Difference<'a>> {
-    let mut found = Found { old, new, ignored, differences: Vec::new() };
-    found.add_all();
-    found.differences
-}
-
-/// Shows the differences between two tables, and returns whether there are some. The bytes of AML are compared by its
-/// objects.
-fn compare_pair<'e, S: ShowDifferences>(
-    old: &Entry<'e>,
-    new: &Entry<'e>,
-    names: (&Names<'_>, &Names<'_>),
-    ignored: &[&str],
-    show: &mut S,
-) -> bool {
-    let (items, others) = (items_of(old), items_of(new));
-    let (was, is) = (items.side(), others.side());
-    let changes = changes_of(was, is, names, ignored);
-    let (front, other_front) = (was.without_objects(), is.without_objects());
-    let found = changes.after(differences(front, other_front, ignored));
-    if !found.is_empty() {
-        show.pair(old, new, &found);
-    }
-    !found.is_empty()
 }
 
 /// Shows the tables that are in one input alone, and of tables in both the fields that differ, less the ones whose
-/// names are ignored. Returns whether it shows something.
-pub fn compare<S: ShowDifferences>(old: &[Entry<'_>], new: &[Entry<'_>], ignored: &[&str], show: &mut S) -> bool {
+/// names are ignored. Returns whether it shows something. The bytes of AML are compared by its objects.
+pub(crate) fn compare<S: ShowDifferences>(
+    old: &[Entry<'_>],
+    new: &[Entry<'_>],
+    ignored: &[&str],
+    show: &mut S,
+) -> bool {
     let (was, is) = (&names_in(old), &names_in(new));
     let names = (&granted(Names::new(Global, was)), &granted(Names::new(Global, is)));
     let mut any = false;
-    for index in 0..old.len() {
-        if let Some(number) = same_in(old, index, new)
-            && let Some(other) = new.get(number)
-        {
-            any |= compare_pair(&old[index], other, names, ignored, show);
-        } else {
+    for (index, entry) in old.iter().enumerate() {
+        let Some(other) = same_in(old, index, new).map(|number| &new[number]) else {
+            show.alone(true, entry);
             any = true;
-            show.alone(true, &old[index]);
+            continue;
+        };
+        let (items, others) = (items_of(entry), items_of(other));
+        let (was, is) = (items.side(), others.side());
+        let found = differences(was.without_objects(), is.without_objects(), ignored);
+        let found = add_changes(found, (was, is), names, ignored);
+        if !found.is_empty() {
+            show.pair(entry, other, &found);
+            any = true;
         }
     }
-    for index in 0..new.len() {
+    for (index, entry) in new.iter().enumerate() {
         if same_in(new, index, old).is_none() {
+            show.alone(false, entry);
             any = true;
-            show.alone(false, &new[index]);
         }
     }
     any

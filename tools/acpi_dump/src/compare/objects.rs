@@ -1,117 +1,82 @@
 //! The objects of AML that differ between two tables, paired by their paths.
 
-use super::code::{Code, CodeChanges};
-use super::known::{Known, objects_of};
+use super::code::{CodeLine, changed_lines};
+use super::known::{self, Known, objects_of};
+use super::outline::Side;
 use super::pairs::Pairs;
 use super::pieces::{cut_piece, elements_of, head_of, inner, keys_of, step_of};
 use super::{Difference, Title};
-use crate::compare::outline::Side;
-use crate::text::text_of;
-use acpi_programs::code::Known as Names;
-use acpi_programs::rattle::alloc::Global;
-use acpi_programs::walk::out::Out;
+use crate::prelude::*;
+use std::borrow::Cow;
 
-/// The objects that differ between two tables, each as the first one has it, or else the second, with the number of the
-/// first difference of that object, and a text of what differs.
-pub(super) struct Changes<'a> {
-    list: Vec<(Known<'a>, usize, Change<'a>)>,
-    text: Out,
-    /// The lines of methods that differ.
-    code: CodeChanges,
+/// The differences between the objects of two tables, of each its bytes and what names stand for.
+struct Changes<'a, 'n> {
+    tables: [(&'a [u8], &'n Names<'n>); 2],
+    /// The differences that came before.
+    others: usize,
+    found: Vec<Difference<'a>>,
 }
 
-/// How an object differs: which table alone has it, or what differs, between two places of the text, and what it is in
-/// the two tables, or the text itself up to the middle and from there on, with the lines of a method that differ, those
-/// between two numbers.
-#[derive(Clone, Copy)]
-enum Change<'a> {
-    First,
-    Second,
-    Piece(usize, usize, Option<&'a str>, Option<&'a str>),
-    Whole((usize, usize, usize), (usize, usize)),
-}
-
-/// Two tables whose objects are compared: what they have, and what names stand for.
-#[derive(Clone, Copy)]
-struct Compared<'c> {
-    old: &'c [u8],
-    new: &'c [u8],
-    names: (&'c Names<'c>, &'c Names<'c>),
-}
-
-impl<'a> Changes<'a> {
+impl<'a> Changes<'a, '_> {
     /// The number of the next difference.
     fn next(&self) -> usize {
-        self.list.len() + 1
+        self.found.len() - self.others + 1
     }
 
-    /// Adds a difference of an object, of which the first one has a number.
-    fn add(&mut self, known: &Known<'a>, number: usize, change: Change<'a>) {
-        self.list.push((*known, number, change));
+    /// Adds an object that one of the tables alone has.
+    fn add_alone(&mut self, object: &Known<'a>, is_first: bool) {
+        let part = self.next();
+        let (old, new) = if is_first { (Some(""), None) } else { (None, Some("")) };
+        let (old, new) = (old.map(Cow::Borrowed), new.map(Cow::Borrowed));
+        let title = Title::Alone(*object);
+        self.found.push(Difference { part, offset: object.offset, old, new, ..Difference::of(title) });
+    }
+
+    /// Adds what differs in an object, whose first difference has a number.
+    fn add(
+        &mut self,
+        was: &Known<'a>,
+        part: usize,
+        name: Cow<'a, str>,
+        (old, new): (Option<Cow<'a, str>>, Option<Cow<'a, str>>),
+        code: Vec<CodeLine>,
+    ) {
+        let title = Title::Object(*was);
+        self.found.push(Difference { part, offset: was.offset, name, old, new, code, ..Difference::of(title) });
     }
 
     /// Adds an object that both tables have, if what it is, its value or its own bytes differ.
-    fn add_pair(&mut self, compared: Compared<'_>, was: &Known<'a>, is: &Known<'a>) {
-        let (number, first) = (self.next(), self.code.count());
+    fn add_pair(&mut self, was: &Known<'a>, is: &Known<'a>) {
+        let number = self.next();
         let is_code = was.kind == "Method";
         if was.kind != is.kind {
-            let start = self.text.length();
-            was.print_value(&mut self.text);
-            let middle = self.text.length();
-            self.text.fill("$, ", &[is.kind]);
-            is.print_value(&mut self.text);
-            let end = self.text.length();
-            return self.add_whole(was, number, (start, middle, end), first);
+            let (old, new) = (was.whole_value(), format!("{}, {}", is.kind, is.whole_value()));
+            return self.add(was, number, was.kind.into(), (Some(old.into()), Some(new.into())), Vec::new());
         }
         if was.value != is.value {
             self.add_elements(was, is, number);
         }
         let are_others = was.own != is.own;
         let is_told = self.next() > number || was.value == is.value && !are_others;
-        if is_code && are_others {
-            let tables = (compared.old, compared.new);
-            self.code.add(compared.names, tables, was, is);
-        }
         if is_code && are_others || !is_told {
-            self.add_bytes(was, is, number, first)
+            let code = if is_code && are_others { changed_lines(self.tables, was, is) } else { Vec::new() };
+            // Bytes differ that aren't shown, or code; the lengths are told if these differ.
+            let word = if is_code { "code" } else { "bytes" };
+            let (old, new) = if was.length == is.length {
+                (word.to_string(), format!("other {word}"))
+            } else {
+                (format!("{} bytes", was.length), format!("{} bytes, other {word}", is.length))
+            };
+            self.add(was, number, was.kind.into(), (Some(old.into()), Some(new.into())), code);
         }
-    }
-
-    /// Adds a text of two parts, and the lines of code from one number on.
-    fn add_whole(&mut self, was: &Known<'a>, number: usize, places: (usize, usize, usize), first: usize) {
-        let code = (first, self.code.count());
-        self.add(was, number, Change::Whole(places, code))
-    }
-
-    /// Adds that bytes differ that aren't shown, or code, with its lines from one number on, and the lengths if these
-    /// differ.
-    fn add_bytes(&mut self, was: &Known<'a>, is: &Known<'a>, number: usize, first: usize) {
-        let word = if was.kind == "Method" { "code" } else { "bytes" };
-        let start = self.text.length();
-        let are_lengths = was.length != is.length;
-        if are_lengths {
-            self.text.words("% bytes", &[was.length]);
-        } else {
-            self.text.text(word);
-        }
-        let middle = self.text.length();
-        if are_lengths {
-            self.text.words("% bytes, ", &[is.length]);
-        }
-        self.text.fill("other $", &[word]);
-        let end = self.text.length();
-        self.add_whole(was, number, (start, middle, end), first)
     }
 
     /// Adds the elements of a value that differ: place by place if there are as many, and else by what they begin with.
     fn add_elements(&mut self, was: &Known<'a>, is: &Known<'a>, number: usize) {
-        let old = elements_of(was.value);
-        let new = elements_of(is.value);
+        let (old, new) = (elements_of(was.value), elements_of(is.value));
         let mut pairs = Pairs::none(old.len(), new.len());
         if old.len() == new.len() {
-            for place in 0..old.len() {
-                pairs.take(place, place);
-            }
+            (0..old.len()).for_each(|place| pairs.take(place, place));
         } else {
             let keys = (keys_of(&old), keys_of(&new));
             for texts in [3, 2, 1] {
@@ -119,39 +84,25 @@ impl<'a> Changes<'a> {
             }
         }
         for (place, element) in old.iter().enumerate() {
-            let other = match pairs.other(place) {
-                Some(other) => new.get(other).copied(),
-                None => None,
-            };
-            let names = (old.len() > 1).then_some(place);
-            self.add_element(was, number, names, (Some(*element), other));
+            let among = (old.len() > 1).then_some(place);
+            match pairs.other(place) {
+                Some(other) => self.add_element(was, number, among, element, new[other]),
+                None => self.add_piece(was, number, "", None, (Some(element), None)),
+            }
         }
         for (place, element) in new.iter().enumerate() {
             if !pairs.is_taken(place) {
-                self.add_element(was, number, None, (None, Some(*element)));
+                self.add_piece(was, number, "", None, (None, Some(element)));
             }
         }
     }
 
-    /// Adds what differs between two elements of a value, of which the first one has a place among others, or that one
-    /// table alone has.
-    fn add_element(
-        &mut self,
-        was: &Known<'a>,
-        number: usize,
-        place: Option<usize>,
-        elements: (Option<&'a str>, Option<&'a str>),
-    ) {
-        let (Some(one), Some(other)) = elements else {
-            return self.add_piece(was, number, "", None, elements);
-        };
+    /// Adds what differs between two elements of a value, of which the first one may have a place among others.
+    fn add_element(&mut self, was: &Known<'a>, number: usize, place: Option<usize>, one: &'a str, other: &'a str) {
         let (whole, head) = (inner(one), head_of(one));
         let is_package = whole.len() < one.len() && place.is_none();
-        let (mut old, mut new, mut index) = (whole, inner(other), 0usize);
-        for _ in 0..old.len() + new.len() {
-            if old.is_empty() && new.is_empty() {
-                return;
-            }
+        let (mut old, mut new, mut index) = (whole, inner(other), 0);
+        while !old.is_empty() || !new.is_empty() {
             let (was_piece, piece) = (cut_piece(old, b','), cut_piece(new, b','));
             let (is_old, is_new) = step_of(was_piece, piece);
             if was_piece.0 != piece.0 {
@@ -159,11 +110,8 @@ impl<'a> Changes<'a> {
                 let before = whole.len().saturating_sub(old.len() + 2);
                 let name = whole.get(..before.min(head.len())).unwrap_or("");
                 let pieces = (is_old.then_some(was_piece.0), is_new.then_some(piece.0));
-                if is_package {
-                    self.add_piece(was, number, "", Some(index), pieces);
-                } else {
-                    self.add_piece(was, number, name, place, pieces);
-                }
+                let (name, place) = if is_package { ("", Some(index)) } else { (name, place) };
+                self.add_piece(was, number, name, place, pieces);
             }
             if is_old {
                 old = was_piece.1;
@@ -180,96 +128,45 @@ impl<'a> Changes<'a> {
         &mut self,
         was: &Known<'a>,
         number: usize,
-        name: &str,
+        name: &'a str,
         place: Option<usize>,
-        pieces: (Option<&'a str>, Option<&'a str>),
+        (old, new): (Option<&'a str>, Option<&'a str>),
     ) {
-        let start = self.text.length();
-        match place {
-            _ if !name.is_empty() && was.kind == "Name" => self.text.text(name),
-            Some(place) => self.text.words("element %", &[place as u64]),
-            None => self.text.text(was.kind),
-        }
-        let end = self.text.length();
-        self.add(was, number, Change::Piece(start, end, pieces.0, pieces.1))
-    }
-
-    /// Adds what differs between the objects of two tables, less those of the kinds that are ignored: in the order of
-    /// the first table, and then those that the second one alone has.
-    fn add_all(
-        &mut self,
-        compared: Compared<'_>,
-        old: &[Known<'a>],
-        new: &[Known<'a>],
-        pairs: &Pairs,
-        ignored: &[&str],
-    ) {
-        for (place, was) in old.iter().enumerate() {
-            if let Some(other) = pairs.other(place)
-                && let Some(is) = new.get(other)
-            {
-                if !ignored.contains(&was.kind) {
-                    self.add_pair(compared, was, is);
-                }
-            } else {
-                self.add(was, self.next(), Change::First);
-            }
-        }
-        for (place, is) in new.iter().enumerate() {
-            if !pairs.is_taken(place) {
-                self.add(is, self.next(), Change::Second);
-            }
-        }
-    }
-
-    /// Other differences, and these after them.
-    pub(super) fn after<'d>(&'d self, others: Vec<Difference<'d>>) -> Vec<Difference<'d>> {
-        let mut differences = others;
-        let text = text_of(&self.text);
-        for (object, part, change) in self.list.iter() {
-            let (alone, shared) = (Title::Alone(*object), Title::Object(*object));
-            let (side, name, old, new, code) = match *change {
-                Change::First => (alone, "", Some(""), None, Code::NONE),
-                Change::Second => (alone, "", None, Some(""), Code::NONE),
-                Change::Piece(start, end, old, new) => {
-                    (shared, text.get(start..end).unwrap_or(""), old, new, Code::NONE)
-                }
-                Change::Whole((start, middle, end), (first, last)) => {
-                    let (old, new) = (text.get(start..middle), text.get(middle..end));
-                    let code = self.code.between(first, last);
-                    (shared, object.kind, old, new, code)
-                }
-            };
-            differences.push(Difference {
-                side,
-                part: *part,
-                offset: object.offset,
-                name,
-                old,
-                new,
-                was: None,
-                place: None,
-                code,
-            });
-        }
-        differences
+        let name = match place {
+            _ if !name.is_empty() && was.kind == "Name" => name.into(),
+            Some(place) => format!("element {place}").into(),
+            None => was.kind.into(),
+        };
+        self.add(was, number, name, (old.map(Cow::Borrowed), new.map(Cow::Borrowed)), Vec::new());
     }
 }
 
-/// The differences between the objects of two tables, less those of objects of the kinds that are ignored.
-pub(super) fn changes_of<'a>(
-    old: Side<'a>,
-    new: Side<'a>,
+/// Adds the differences between the objects of two tables, less those of the kinds that are ignored: in the order of the
+/// first table, and then those that the second one alone has.
+pub(super) fn add_changes<'a>(
+    found: Vec<Difference<'a>>,
+    (old, new): (Side<'a>, Side<'a>),
     names: (&Names<'_>, &Names<'_>),
     ignored: &[&str],
-) -> Changes<'a> {
-    let compared = Compared { old: old.table, new: new.table, names };
+) -> Vec<Difference<'a>> {
+    let tables = [(old.table, names.0), (new.table, names.1)];
     let (old, new) = (objects_of(old), objects_of(new));
-    let mut pairs = Pairs::none(old.known.len(), new.known.len());
-    let keys = (old.keys(), new.keys());
+    let mut pairs = Pairs::none(old.len(), new.len());
+    let keys = (known::keys_of(&old), known::keys_of(&new));
     pairs.add(&keys.0, &keys.1, 2);
     pairs.add(&keys.0, &keys.1, 1);
-    let mut changes = Changes { list: Vec::new(), text: Out::new(Global), code: CodeChanges::new() };
-    changes.add_all(compared, &old.known, &new.known, &pairs, ignored);
-    changes
+    let mut changes = Changes { tables, others: found.len(), found };
+    for (place, was) in old.iter().enumerate() {
+        match pairs.other(place) {
+            Some(other) if !ignored.contains(&was.kind) => changes.add_pair(was, &new[other]),
+            Some(_) => {}
+            None => changes.add_alone(was, true),
+        }
+    }
+    for (place, is) in new.iter().enumerate() {
+        if !pairs.is_taken(place) {
+            changes.add_alone(is, false);
+        }
+    }
+    changes.found
 }

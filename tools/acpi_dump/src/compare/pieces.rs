@@ -1,26 +1,19 @@
 //! The pieces that the value of an object of AML has: elements, of resources and of packages, and in these parts.
 
 use super::pairs::Key;
-use acpi_programs::rattle::Pieces;
 
 /// A text up to the first of a mark that is outside of quotes and brackets, with a blank after it, and the rest.
 pub(super) fn cut_piece(text: &str, mark: u8) -> (&str, &str) {
     let (mut depth, mut is_quoted, mut is_escaped) = (0u32, false, false);
-    for (place, letter) in text.as_bytes().iter().enumerate() {
-        let letter = *letter;
-        if is_escaped {
-            is_escaped = false;
-        } else if letter == b'"' {
-            is_quoted = !is_quoted;
-        } else if is_quoted {
-            is_escaped = letter == b'\\';
-        } else if matches!(letter, b'{' | b'(') {
-            depth += 1;
-        } else if matches!(letter, b'}' | b')') {
-            depth = depth.saturating_sub(1);
-        } else if letter == mark && depth == 0 {
-            let rest = text.get(place + 2..);
-            return (text.get(..place).unwrap_or(text), rest.unwrap_or(""));
+    for (place, letter) in text.bytes().enumerate() {
+        match letter {
+            _ if is_escaped => is_escaped = false,
+            b'"' => is_quoted = !is_quoted,
+            _ if is_quoted => is_escaped = letter == b'\\',
+            b'{' | b'(' => depth += 1,
+            b'}' | b')' => depth = depth.saturating_sub(1),
+            _ if letter == mark && depth == 0 => return (&text[..place], text.get(place + 2..).unwrap_or("")),
+            _ => {}
         }
     }
     (text, "")
@@ -28,12 +21,8 @@ pub(super) fn cut_piece(text: &str, mark: u8) -> (&str, &str) {
 
 /// The elements of a value.
 pub(super) fn elements_of(value: &str) -> Vec<&str> {
-    let mut elements = Vec::new();
-    let mut rest = value.trim_ascii();
-    for _ in 0..rest.len() {
-        if rest.is_empty() {
-            break;
-        }
+    let (mut elements, mut rest) = (Vec::new(), value.trim_ascii());
+    while !rest.is_empty() {
         let (element, others) = cut_piece(rest, b';');
         elements.push(element);
         rest = others;
@@ -57,12 +46,11 @@ pub(super) fn head_of(element: &str) -> &str {
     if whole.len() == element.len() {
         return first;
     }
-    if whole.starts_with('{') || whole.starts_with('(') {
+    if whole.starts_with(['{', '(']) {
         return "";
     }
     let (second, _) = cut_piece(rest, b',');
-    let end = first.len() + second.len() + 2;
-    whole.get(..end).unwrap_or(whole)
+    whole.get(..first.len() + second.len() + 2).unwrap_or(whole)
 }
 
 /// Of two texts, each as its first piece and the rest, whether the first pieces come now: both, or one that the other
@@ -82,12 +70,9 @@ pub(super) fn step_of(old: (&str, &str), new: (&str, &str)) -> (bool, bool) {
 
 /// By what elements are paired: their first words, what they begin with, and all of them.
 pub(super) fn keys_of<'a>(elements: &[&'a str]) -> Vec<Key<'a>> {
-    let mut keys = Vec::new();
-    for (number, element) in elements.iter().enumerate() {
-        let element = *element;
-        let (word, _) = element.two_pieces(' ').unwrap_or((element, ""));
-        keys.push((0, word, head_of(element), element, number));
-    }
-    keys.sort();
+    let word = |element: &'a str| element.split_once(' ').map_or(element, |(word, _)| word);
+    let key = |(number, element): (usize, &&'a str)| (0, word(element), head_of(element), *element, number);
+    let mut keys: Vec<_> = elements.iter().enumerate().map(key).collect();
+    keys.sort_unstable();
     keys
 }

@@ -1,315 +1,204 @@
-//! The arguments of the program.
+//! The words after the program's name, by the crate `clap`, which finds which are options, and what is wrong with them.
+//! The texts are made here, since each version of it has other words.
 
-mod words;
+use clap::error::{ContextKind, ContextValue, ErrorKind};
+use clap::{Arg, ArgAction, Command, CommandFactory, FromArgMatches, Parser};
 
-use crate::arguments::ArgMatches;
-use crate::check::rules::{Rule, Severity};
-use crate::dump::options::{Choice, Contents, refuse, refuse_option};
-use crate::dump::rules::parse_rule;
-use crate::dump::values::{
-    Color, Format, Order, is_rsdp, parse_color, parse_format, parse_order, parse_signature, parse_start,
-};
-use crate::dump::wanted::{Wanted, check_wanted};
-use acpi_programs::cli::parse_address;
-use acpi_programs::cli::root::{Root, parse_root};
-use acpi_programs::input::errors::{Log, Stop};
-use acpi_programs::input::kind::{Kind, parse_kind};
-use acpi_programs::input::read::Reading;
-use words::{checked, is_there, name_of, root_words, word_of, words_of};
-use zacpi::sdt::Signature;
-
-/// The part of an input that is shown.
-#[derive(Clone, Copy)]
-pub(crate) enum View {
-    /// A line for each table.
-    Lines,
-    /// The contents of the tables that are chosen.
-    Tables,
-    /// Single values of tables.
-    Values,
-    /// The RSDPs that there are.
-    Candidates,
-    /// The machine in short.
-    Summary,
-    /// What differs between two inputs.
-    Differences,
-    /// Each table as a file.
-    Files,
-    /// What rules find.
-    Findings,
-    /// The rules.
-    Rules,
-    /// A page.
-    Page,
+/// Shows ACPI tables
+#[derive(Parser, Default)]
+#[command(name = "acpi_dump", version, after_help = AFTER, no_binary_name = true)]
+#[command(disable_help_flag = true, disable_version_flag = true)]
+pub(crate) struct Arguments {
+    /// Files of tables, a folder of them, acpidump's or acpiview's text, an image of acpi_pack, raw memory, or - for
+    /// standard input; without one the machine's own tables
+    #[arg(value_name = "INPUT", num_args = 1)]
+    pub(crate) input: Vec<String>,
+    /// What the input is: image, memory, text or table
+    #[arg(id = "as", long = "as", value_name = "KIND")]
+    pub(crate) kind: Option<String>,
+    /// The address of raw memory's first byte
+    #[arg(long, value_name = "ADDRESS")]
+    pub(crate) at: Option<String>,
+    /// The way to the root table: rsdt:REVISION:ADDRESS, rsdp:ADDRESS or bios
+    #[arg(long, value_name = "START")]
+    pub(crate) start: Option<String>,
+    /// The fields of the tables of a signature, or of all
+    #[arg(long, short, value_name = "SIG", value_delimiter = ',')]
+    pub(crate) table: Vec<String>,
+    /// The bytes of the tables of a signature, or of all
+    #[arg(long, value_name = "SIG", value_delimiter = ',')]
+    pub(crate) hex: Vec<String>,
+    /// With --table: the operations of AML, one a line
+    #[arg(long)]
+    pub(crate) code: bool,
+    /// One value a line, for scripts: SIG.FIELD, SIG.ENTRY.FIELD or SIG:OBJECT
+    #[arg(long, value_name = "VALUE", value_delimiter = ',')]
+    pub(crate) get: Vec<String>,
+    /// The text of acpidump, of all tables or of those of --table
+    #[arg(long)]
+    pub(crate) text: bool,
+    /// Each table, or those of --table, as a file in this folder: SIG.dat, or SIG1.dat and so on
+    #[arg(long, short = 'o', value_name = "DIR")]
+    pub(crate) extract: Option<String>,
+    /// A page of all of it: the machine drawn, what rules find, and each table's fields beside its bytes; - prints it
+    #[arg(long, value_name = "FILE")]
+    pub(crate) html: Option<String>,
+    /// Files of --extract and --html replace those that are there
+    #[arg(long)]
+    pub(crate) force: bool,
+    /// The machine in short
+    #[arg(long)]
+    pub(crate) summary: bool,
+    /// Every RSDP in memory, valid or not
+    #[arg(long)]
+    pub(crate) find: bool,
+    /// What rules find wrong: all, or only what is an error, a warning or worse, or a note or worse
+    #[arg(long, value_name = "SEVERITY", num_args = 0..=1, require_equals = true, default_missing_value = "")]
+    pub(crate) check: Option<String>,
+    /// A document of an earlier --check --json, whose findings are left out
+    #[arg(long, value_name = "FILE")]
+    pub(crate) baseline: Option<String>,
+    /// Findings that are accepted, and left out: lines RULE [SIG [FIELD]] [until DATE]: REASON
+    #[arg(id = "ignore-rules", long = "ignore-rules", value_name = "FILE")]
+    pub(crate) ignore_rules: Option<String>,
+    /// What --check prints in place of lines: sarif or junit
+    #[arg(long, value_name = "FORMAT")]
+    pub(crate) format: Option<String>,
+    /// The order of what --check finds: by table, rule or severity
+    #[arg(long, value_name = "KEY")]
+    pub(crate) sort: Option<String>,
+    /// The rules of --check, or one of them, and what to do about what it finds
+    #[arg(long, value_name = "RULE", num_args = 0..=1, default_missing_value = "")]
+    pub(crate) rules: Option<String>,
+    /// Each input as machines, of which a folder has many: their groups, and what differs
+    #[arg(long)]
+    pub(crate) fleet: bool,
+    /// The machine with which those of --fleet are compared, in place of the largest group's first
+    #[arg(long, value_name = "INPUT")]
+    pub(crate) base: Option<String>,
+    /// Fields that differ between machines of one kind are left out of --fleet: addresses, sums, serial numbers
+    #[arg(long)]
+    pub(crate) alike: bool,
+    /// What differs between two inputs
+    #[arg(long, short)]
+    pub(crate) compare: bool,
+    /// Status 1 if two inputs differ
+    #[arg(id = "exit-code", long = "exit-code")]
+    pub(crate) exit_code: bool,
+    /// Fields that are left out of what differs
+    #[arg(long, value_name = "FIELD", value_delimiter = ',')]
+    pub(crate) ignore: Vec<String>,
+    /// One JSON document of what is shown
+    #[arg(long, short)]
+    pub(crate) json: bool,
+    /// Status 3 if a table is invalid
+    #[arg(long)]
+    pub(crate) strict: bool,
+    /// How many bytes an input has at most: 1073741824 if it isn't said
+    #[arg(id = "max-bytes", long = "max-bytes", value_name = "NUMBER")]
+    pub(crate) max_bytes: Option<String>,
+    /// auto, always or never
+    #[arg(long, value_name = "WHEN")]
+    pub(crate) color: Option<String>,
+    /// The options that there are, and whether there are inputs.
+    #[arg(skip)]
+    pub(crate) names: Vec<String>,
 }
 
-/// What the arguments ask for.
-pub(crate) struct Request<'w> {
-    /// The names of what is read.
-    pub(crate) inputs: &'w [&'w str],
-    /// How they are read.
-    pub(crate) reading: Reading,
-    /// The way to the root table, if it is said.
-    pub(crate) start: Option<Root>,
-    pub(crate) view: View,
-    /// The tables whose contents are shown, in this order.
-    pub(crate) choices: Vec<Choice>,
-    /// The words of the values that are shown, in this order.
-    pub(crate) wanted: &'w [&'w str],
-    /// The folder in which each table is to be a file.
-    pub(crate) folder: Option<&'w str>,
-    /// The file that a page is to be.
-    pub(crate) page: Option<&'w str>,
-    /// Whether these files replace those that are there.
-    pub(crate) is_forced: bool,
-    pub(crate) is_json: bool,
-    pub(crate) is_strict: bool,
-    /// Whether the status is 1 if two inputs differ.
-    pub(crate) is_exit_code: bool,
-    /// The names of fields that are left out of what differs.
-    pub(crate) ignored: &'w [&'w str],
-    /// The least severity of what rules find that is shown, and that makes the status 4, if it is said.
-    pub(crate) least: Option<Severity>,
-    /// The file of an earlier check's findings, which are left out.
-    pub(crate) baseline: Option<&'w str>,
-    /// The file of lines that accept findings, which are left out.
-    pub(crate) accepted: Option<&'w str>,
-    /// The rule that is shown in place of all.
-    pub(crate) rule: Option<&'static Rule>,
-    pub(crate) format: Format,
-    pub(crate) order: Order,
-    pub(crate) color: Color,
+const AFTER: &str = "An image may also be followed by rsdt REVISION ADDRESS, rsdp ADDRESS or bios.
+ADDRESS is 0x and one to sixteen hexadecimal digits.
+Status: 0 shown, 1 something isn't there or can't be read or written, 2 usage, 3 shown but a table is invalid
+(--strict), 4 shown and --check finds an error, or with a severity anything of it or worse.";
+
+/// A text in place of arguments.
+pub(crate) enum Refusal {
+    /// What is wrong.
+    Mistake(String),
+    /// The help or the version that the words ask for.
+    Asked(String),
 }
 
-/// The options that ask for a view.
-const VIEWS: [(&str, View); 4] =
-    [("summary", View::Summary), ("find", View::Candidates), ("compare", View::Differences), ("rules", View::Rules)];
+/// What the options are.
+pub(crate) fn command() -> Command {
+    let of = |id: &'static str, letter| Arg::new(id).long(id).short(letter);
+    let help = of("help", 'h').action(ArgAction::Help).help("Print help");
+    Arguments::command().arg(help).arg(of("version", 'V').action(ArgAction::Version).help("Print version"))
+}
 
-const ONE_VIEW: &str = "[--table SIG].. [--hex SIG].. | --get VALUE.. | --text [--table SIG].. | \
-     --extract DIR [--table SIG].. | [--check] --html FILE | --summary | --find | \
-     --compare [--html FILE] | --check | --rules";
-
-impl Request<'_> {
-    /// Adds a choice: the tables of a signature, or all.
-    fn choose(&mut self, signature: Option<Signature>, contents: Contents) {
-        self.choices.push(Choice { signature, contents });
+impl Arguments {
+    pub(crate) fn of(words: &[&str]) -> Result<Arguments, Refusal> {
+        let mut command = command();
+        command.build();
+        let matches = command.try_get_matches_from_mut(words).map_err(|error| told(&command, &error))?;
+        let mut arguments = Arguments::from_arg_matches(&matches).map_err(|error| told(&command, &error))?;
+        let is_there = |id: &&str| matches.value_source(id) == Some(clap::parser::ValueSource::CommandLine);
+        let ids = command.get_arguments().map(|arg| arg.get_id().as_str());
+        arguments.names = ids.filter(is_there).map(str::to_string).collect();
+        Ok(arguments)
     }
+}
 
-    /// Adds the choices that the words of an option make.
-    fn add_choices(
-        &mut self,
-        matches: &ArgMatches,
-        log: &mut Log,
-        option: &'static str,
-        contents: Contents,
-    ) -> Result<(), Stop> {
-        let words = matches.get_strs(option).unwrap_or(&[]);
-        for word in words {
-            let Some(signature) = parse_signature(word) else {
-                return Err(refuse_option(log, option, word));
-            };
-            self.choose(signature, contents);
-        }
-        Ok(())
-    }
-
-    /// Adds the tables whose contents are chosen: in acpidump's text all of them, unless some are named.
-    fn add_contents(&mut self, matches: &ArgMatches, log: &mut Log) -> Result<(), Stop> {
-        let is_text = matches.get_flag("text");
-        let (of_table, of_hex) = if is_text {
-            (Contents::Dumped, Contents::Dumped)
-        } else if matches.get_flag("code") {
-            (Contents::Code, Contents::Bytes)
-        } else {
-            (Contents::Fields, Contents::Bytes)
-        };
-        self.add_choices(matches, log, "table", of_table)?;
-        self.add_choices(matches, log, "hex", of_hex)?;
-        if is_text && self.choices.is_empty() {
-            self.choose(None, Contents::Dumped);
-        }
-        Ok(())
-    }
-
-    /// Whether the RSDP is chosen, or a value in it.
-    pub(crate) fn names_rsdp(&self) -> bool {
-        let mut choices = self.choices.iter();
-        choices.any(|choice| choice.signature.is_some_and(is_rsdp)) || self.wanted.iter().any(|word| is_in_rsdp(word))
-    }
-
-    /// Takes a view, which has to be the only one.
-    fn take_view(&mut self, view: View, log: &mut Log) -> Result<(), Stop> {
-        if !matches!(self.view, View::Lines) {
-            return Err(refuse(log, "two views", ONE_VIEW));
-        }
-        self.view = view;
-        Ok(())
-    }
-
-    /// Adds the view that the options ask for, of which at most one kind may be there.
-    fn add_view(&mut self, matches: &ArgMatches, log: &mut Log) -> Result<(), Stop> {
-        if matches.get_flag("fleet") {
-            let why = "this program is built without fleets";
-            return Err(refuse_option(log, "fleet", why));
-        }
-        let is_text = matches.get_flag("text");
-        let are_files = self.folder.is_some() && matches.get_strs("hex").is_none();
-        if !self.choices.is_empty() && (!are_files || is_text) {
-            self.view = View::Tables;
-        }
-        for (option, view) in &VIEWS {
-            if is_there(matches, option) {
-                self.take_view(*view, log)?;
+/// The text of what the crate found.
+fn told(command: &Command, error: &clap::Error) -> Refusal {
+    let of = |kind| match error.get(kind) {
+        Some(ContextValue::String(text)) => text.clone(),
+        Some(ContextValue::StyledStr(text)) => text.to_string(),
+        _ => String::new(),
+    };
+    let (arg, value, mut usage) = (of(ContextKind::InvalidArg), of(ContextKind::InvalidValue), of(ContextKind::Usage));
+    let mut tip = String::new();
+    let what = match error.kind() {
+        ErrorKind::DisplayHelp => return Refusal::Asked(help(command)),
+        ErrorKind::DisplayVersion => return Refusal::Asked(command.render_version()),
+        ErrorKind::UnknownArgument => {
+            if let Some(similar) = arg.strip_prefix("--").and_then(|name| similar(command, name)) {
+                tip = format!("\n  tip: a similar argument exists: '--{}'\n", similar.get_long().unwrap_or(""));
+                usage = with(&usage, &similar.to_string());
+            } else if error.get(ContextKind::Suggested).is_some() {
+                tip = format!("\n  tip: to pass '{arg}' as a value, use '-- {arg}'\n");
             }
+            format!("unexpected argument '{arg}' found")
         }
-        check_wanted(self.wanted, log)?;
-        if !self.wanted.is_empty() {
-            self.take_view(View::Values, log)?;
-        }
-        if self.folder.is_some() {
-            self.take_view(View::Files, log)?;
-        }
-        if matches.get_str("check").is_some() {
-            self.take_view(View::Findings, log)?;
-        }
-        if self.page.is_some() && !matches!(self.view, View::Differences | View::Findings) {
-            self.take_view(View::Page, log)?;
-        }
-        if self.is_json && (is_text || self.folder.is_some() || self.page.is_some()) {
-            let why = "--text, --extract and --html have no document";
-            return Err(refuse_option(log, "json", why));
-        }
-        if let Some((option, why)) = self.misplaced(matches) {
-            return Err(refuse_option(log, option, why));
-        }
-        Ok(())
-    }
-
-    /// The first option that is there without the view that it is for, and what that is.
-    fn misplaced(&self, matches: &ArgMatches) -> Option<(&'static str, &'static str)> {
-        let is_checked = matches!(self.view, View::Findings);
-        let is_compared = matches!(self.view, View::Differences);
-        let are_saved = self.folder.is_some() || self.page.is_some();
-        let are_chosen = matches!(self.view, View::Tables) && matches.get_strs("table").is_some();
-        let are_listed = are_chosen && !matches.get_flag("text");
-        let are_lines = is_checked && self.page.is_none() && !self.is_json;
-        let options = [
-            ("code", matches.get_flag("code"), are_listed),
-            ("ignore", !self.ignored.is_empty(), is_compared),
-            ("exit-code", self.is_exit_code, is_compared),
-            ("force", self.is_forced, are_saved),
-            ("base", matches.get_str("base").is_some(), false),
-            ("alike", matches.get_flag("alike"), false),
-            ("baseline", self.baseline.is_some(), is_checked),
-            ("ignore-rules", self.accepted.is_some(), is_checked),
-            ("format", matches.get_str("format").is_some(), are_lines),
-            ("sort", matches.get_str("sort").is_some(), is_checked),
-        ];
-        for (option, is_there, has_view) in &options {
-            if *is_there && !*has_view {
-                return Some((*option, view_for(option)));
-            }
-        }
-        None
-    }
-
-    /// Takes the words after an image as a way to the root table, in place of more inputs, if they are to be one.
-    fn take_root(&mut self, log: &mut Log) -> Result<(), Stop> {
-        let Some((form, words)) = root_words(self.inputs) else {
-            return Ok(());
-        };
-        let Some(root) = parse_root(words) else {
-            let usage = "IMAGE rsdt REVISION ADDRESS | rsdp ADDRESS | bios";
-            return Err(refuse(log, form, usage));
-        };
-        self.inputs = self.inputs.get(..1).unwrap_or(&[]);
-        self.start = Some(root);
-        if self.reading.kind.is_none() && self.reading.at.is_none() {
-            self.reading.kind = Some(Kind::Image);
-        }
-        Ok(())
-    }
-}
-
-/// The view that an option is for.
-fn view_for(option: &str) -> &'static str {
-    match option {
-        "code" => "it is for --table, without --text",
-        "ignore" | "exit-code" => "it is for --compare",
-        "force" => "it is for --extract and --html",
-        "base" | "alike" => "it is for --fleet",
-        "format" => "it is for --check, without --html or --json",
-        _ => "it is for --check",
-    }
-}
-
-/// Whether a word requests a value in the RSDP.
-fn is_in_rsdp(word: &str) -> bool {
-    match Wanted::read(word) {
-        Some(wanted) => is_rsdp(wanted.signature),
-        None => false,
-    }
-}
-
-/// How the words of options have inputs read.
-///
-/// Fails, after printing that, if one has no value.
-fn reading_of(matches: &ArgMatches, log: &mut Log) -> Result<Reading, Stop> {
-    let most = word_of(matches, "max-bytes").parse::<u64>().ok();
-    Ok(Reading {
-        kind: checked(matches, log, "as", parse_kind(word_of(matches, "as")))?,
-        at: checked(matches, log, "at", parse_address(word_of(matches, "at")))?,
-        most: checked(matches, log, "max-bytes", most)?.unwrap_or(1 << 30),
-    })
-}
-
-/// The least severity of what rules find that is shown, and the rule that is, if they are said.
-fn judging_of(matches: &ArgMatches, log: &mut Log) -> Result<(Option<Severity>, Option<&'static Rule>), Stop> {
-    let least = match word_of(matches, "check") {
-        "" => None,
-        word => checked(matches, log, "check", Severity::read(word))?,
+        ErrorKind::InvalidValue => format!("a value is required for '{arg}' but none was supplied"),
+        ErrorKind::TooManyValues => format!("unexpected value '{value}' for '{arg}' found; no more were expected"),
+        ErrorKind::ArgumentConflict => format!("the argument '{arg}' cannot be used multiple times"),
+        kind => kind.to_string(),
     };
-    let rule = match word_of(matches, "rules") {
-        "" => None,
-        word => Some(parse_rule(log, word)?),
-    };
-    Ok((least, rule))
+    let usage = if usage.is_empty() { usage } else { format!("\n{}\n", usage.trim_end()) };
+    Refusal::Mistake(format!("{what}\n{tip}{usage}\nFor more information, try '--help'.\n"))
 }
 
-/// The request that matches make.
-///
-/// Fails, after printing that, with the first mistake in this order: the words of options but
-/// those of `--get`, the choices, the views with the words of `--get`, and the way to the root table.
-pub(crate) fn request_of<'m>(matches: &'m ArgMatches, log: &mut Log) -> Result<Request<'m>, Stop> {
-    let (least, rule) = judging_of(matches, log)?;
-    let start = parse_start(word_of(matches, "start"));
-    let color = parse_color(word_of(matches, "color"));
-    let format = parse_format(word_of(matches, "format"));
-    let order = parse_order(word_of(matches, "sort"));
-    let mut request = Request {
-        least,
-        rule,
-        reading: reading_of(matches, log)?,
-        start: checked(matches, log, "start", start)?,
-        folder: checked(matches, log, "extract", name_of(matches, "extract"))?,
-        page: checked(matches, log, "html", name_of(matches, "html"))?,
-        baseline: checked(matches, log, "baseline", name_of(matches, "baseline"))?,
-        accepted: checked(matches, log, "ignore-rules", name_of(matches, "ignore-rules"))?,
-        format: checked(matches, log, "format", format)?.unwrap_or(Format::Lines),
-        order: checked(matches, log, "sort", order)?.unwrap_or(Order::Tables),
-        color: checked(matches, log, "color", color)?.unwrap_or(Color::Auto),
-        view: View::Lines,
-        choices: Vec::new(),
-        wanted: words_of(matches, "get"),
-        inputs: matches.get_strs("input").unwrap_or(&[]),
-        ignored: words_of(matches, "ignore"),
-        is_forced: matches.get_flag("force"),
-        is_json: matches.get_flag("json"),
-        is_strict: matches.get_flag("strict"),
-        is_exit_code: matches.get_flag("exit-code"),
+/// The usage line with an option among those that it names, before the inputs at its end.
+fn with(usage: &str, option: &str) -> String {
+    match usage.trim_end().rsplit_once(' ') {
+        Some((names, _)) if names.contains(option) => usage.to_string(),
+        Some((names, inputs)) => format!("{} {option} {inputs}", names.trim_end_matches(" [OPTIONS]")),
+        None => usage.to_string(),
+    }
+}
+
+/// The option whose name is most like a word's, if one is like it.
+fn similar<'c>(command: &'c Command, name: &str) -> Option<&'c Arg> {
+    let likeness = |arg: &&Arg| strsim::jaro(name, arg.get_long().unwrap_or(""));
+    let alike = command.get_arguments().filter(|arg| likeness(arg) > 0.7);
+    alike.max_by(|one, other| likeness(one).total_cmp(&likeness(other)))
+}
+
+/// The help: each option beside what it does.
+fn help(command: &Command) -> String {
+    let (inputs, options): (Vec<_>, Vec<_>) = command.get_arguments().partition(|arg| arg.is_positional());
+    let help_of = |arg: &Arg| arg.get_help().map(ToString::to_string).unwrap_or_default();
+    let names = |arg: &Arg| match arg.get_short() {
+        Some(letter) => format!("-{letter}, {arg}"),
+        None => format!("    {arg}"),
     };
-    request.add_contents(matches, log)?;
-    request.add_view(matches, log)?;
-    request.take_root(log)?;
-    Ok(request)
+    let width = options.iter().map(|arg| names(arg).len()).max().unwrap_or(0);
+    let options = options.iter().map(|arg| format!("  {:width$}  {}\n", names(arg), help_of(arg))).collect::<String>();
+    let usage = inputs.iter().map(|arg| format!(" {arg}")).collect::<String>();
+    let inputs = inputs.iter().map(|arg| format!("  {arg}  {}\n", help_of(arg))).collect::<String>();
+    let about = command.get_about().map(ToString::to_string).unwrap_or_default();
+    format!(
+        "{about}\n\nUsage: {} [OPTIONS]{usage}\n\nArguments:\n{inputs}\nOptions:\n{options}\n{AFTER}\n",
+        command.get_name()
+    )
 }

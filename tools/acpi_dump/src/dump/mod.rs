@@ -2,14 +2,13 @@
 //! `--extract` saves the tables that it takes, as files of its folder, `--html` the page, and nothing else is saved.
 
 mod accepted;
-mod arguments;
+pub(crate) mod arguments;
 mod contents;
 mod getters;
 mod listing;
-pub mod options;
 mod paint;
-mod rules;
-pub mod run;
-mod values;
+mod request;
+pub(crate) mod run;
+mod usage;
 mod views;
 mod wanted;

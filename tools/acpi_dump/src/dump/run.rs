@@ -1,155 +1,148 @@
-//! The program over any files, any storage and any writers.
+//! A run of the program.
 
-use crate::arguments::{ArgMatches, Refusal};
-use crate::dump::accepted::Accepted;
-use crate::dump::arguments::{Request, View, request_of};
-use crate::dump::options::{command, refuse_option};
-use crate::dump::paint::Paint;
-use crate::dump::values::Color;
-use crate::dump::views::{Output, has_no_start, print_compared, print_input, print_rules, save_input, save_page};
-use acpi_programs::cli::storage::Storage;
-use acpi_programs::input::errors::{Log, Stop, tell};
-use acpi_programs::input::gather::gather;
-use acpi_programs::input::sources::{Sources, reason_of};
-use acpi_programs::rattle::alloc::Global;
-use acpi_programs::rattle::io;
-use acpi_programs::rattle::io::{ErrorKind, Write};
-use acpi_programs::walk::out::Out;
+use super::accepted::Accepted;
+use super::arguments::{Arguments, Refusal};
+use super::paint::Paint;
+use super::request::{Color, Request, View};
+use super::usage::Wrong;
+use crate::prelude::*;
+use acpi_programs::cli::storage::HostStorage;
+use acpi_programs::input::extract::Saving;
+use acpi_programs::input::gather::{Input, gather};
+use acpi_programs::input::sources::{HostSources, Sources, reason_of};
+use acpi_programs::rattle::HostRuntime;
+use std::io;
 
-/// Runs the program on the arguments after its name, and returns the status: 0 if all is shown, 1 if something that
-/// is asked for isn't there or can't be read, or if two inputs differ and `--exit-code` is given, 2 if the arguments
-/// are not a command, 3 if all is shown but a table is invalid and `--strict` is given, and 4 if `--check` finds an
-/// error.
+/// A run of a request: what it reads from and saves to, and what it prints.
+pub(crate) struct Run<'r> {
+    pub(crate) request: &'r Request<'r>,
+    /// What is left out of what rules find.
+    pub(crate) accepted: Accepted<'r>,
+    pub(crate) paint: Paint,
+    pub(crate) sources: HostSources<'r>,
+    pub(crate) storage: HostStorage<'r>,
+    pub(crate) out: &'r mut Out,
+    pub(crate) log: &'r mut Log,
+}
+
+/// Runs the program on the words after its name, and returns the status: 0 if all is shown, 1 if something that is
+/// asked for isn't there or can't be read, or if two inputs differ and `--exit-code` is given, 2 if the words are not a
+/// command, 3 if all is shown but a table is invalid and `--strict` is given, and 4 if `--check` finds an error.
 ///
-/// Fails with the error of the first write or flush of `out`, or else of `err`, that fails.
-pub fn dump<S: Sources, T: Storage, W: Write, E: Write>(
-    arguments: &[&str],
-    sources: &mut S,
-    storage: &mut T,
-    out: W,
-    err: E,
-) -> io::Result<u8> {
-    let (mut shown, mut log) = (Out::new(Global), Log::new(Global));
-    let status = print_asked(arguments, sources, storage, &mut shown, &mut log);
-    if let Err(Stop::OutOfMemory) = &status {
-        log.text.text("acpi_dump: out of memory\n");
-    }
-    let shown = shown.write_to(out);
-    if let Err(refusal) = &shown {
-        tell(&mut log, "standard output", &reason_of(refusal));
-    }
-    let logged = log.text.write_to(err);
-    let status = status_of_run(status, log.is_incomplete);
-    shown.and(logged)?;
-    Ok(status)
-}
-
-/// The status of a run of which this was shown: 1 in place of one that means that all is, if something isn't.
-fn status_of_run(shown: Result<u8, Stop>, is_incomplete: bool) -> u8 {
-    match shown {
-        Ok(0 | 3 | 4) if is_incomplete => 1,
-        Ok(status) => status,
-        Err(_) => 1,
-    }
-}
-
-/// Prints what the arguments ask for.
-fn print_asked<S: Sources, T: Storage>(
-    arguments: &[&str],
-    sources: &mut S,
-    storage: &mut T,
-    out: &mut Out,
-    log: &mut Log,
-) -> Result<u8, Stop> {
-    match ArgMatches::of(command(), arguments) {
-        Ok(matches) => match &request_of(&matches, log) {
-            Ok(request) => print_inputs(request, sources, storage, out, log),
-            Err(Stop::Message) => Ok(2),
-            Err(Stop::OutOfMemory) => Err(Stop::OutOfMemory),
+/// Fails with the error of the first write or flush of standard output, or else of standard error, that fails.
+pub fn run(words: &[&str]) -> io::Result<u8> {
+    let (mut out, mut log) = (Out::new(Global), Log::new(Global));
+    let status = match Arguments::of(words) {
+        #[cfg(feature = "fleet")]
+        Ok(arguments) if arguments.fleet => return Ok(crate::fleet::run(&arguments)),
+        Ok(arguments) => match Request::of(&arguments) {
+            Ok(request) => print_requested(&request, &mut out, &mut log),
+            Err(Wrong(text)) => {
+                log.text.text(&text);
+                Ok(2)
+            }
         },
-        Err(refusal) => Ok(print_refusal(&refusal, out, log)),
-    }
-}
-
-/// Prints why words are no command, or the help or the version that they ask for.
-fn print_refusal(refusal: &Refusal, out: &mut Out, log: &mut Log) -> u8 {
-    match refusal {
-        Refusal::Asked(text) => {
-            out.text(text);
-            0
+        Err(Refusal::Asked(text)) => {
+            out.text(&text);
+            Ok(0)
         }
-        Refusal::Mistake(text) => {
+        Err(Refusal::Mistake(text)) => {
             log.text.text("acpi_dump: ");
-            for line in text.strip_prefix("error: ").unwrap_or(text).lines() {
+            for line in text.lines() {
                 log.text.escaped(line.as_bytes());
                 log.text.text("\n");
             }
-            2
+            Ok(2)
         }
+    };
+    if let Err(Stop::OutOfMemory) = status {
+        log.text.text("acpi_dump: out of memory\n");
     }
+    let shown = out.write_to(HostRuntime::new().stdout());
+    if let Err(refusal) = &shown {
+        tell(&mut log, "standard output", &reason_of(refusal));
+    }
+    let logged = log.text.write_to(io::stderr());
+    shown.and(logged)?;
+    Ok(match status {
+        // Something isn't shown.
+        Ok(0 | 3 | 4) if log.is_incomplete => 1,
+        status => status.unwrap_or(1),
+    })
 }
 
-/// Prints what is asked for of the inputs.
-fn print_inputs<S: Sources, T: Storage>(
-    request: &Request<'_>,
-    sources: &mut S,
-    storage: &mut T,
-    out: &mut Out,
-    log: &mut Log,
-) -> Result<u8, Stop> {
+/// Prints what is requested.
+fn print_requested(request: &Request<'_>, out: &mut Out, log: &mut Log) -> Result<u8, Stop> {
+    let rt = &HostRuntime::new();
+    let (mut sources, storage) = (HostSources::new(rt), HostStorage::new(rt));
     let is_on = match request.color {
         Color::Auto => sources.takes_color(),
         Color::Always => true,
         Color::Never => false,
     };
-    let accepted = &Accepted::read(request, sources, log)?;
-    let output = Output { request, accepted, paint: Paint { is_on }, number: 0 };
+    let accepted = Accepted::read(request, &mut sources, log)?;
+    let mut run = Run { request, accepted, paint: Paint { is_on }, sources, storage, out, log };
     // No files are saved beside these views but the page of differences.
     match (request.view, request.folder, request.page) {
-        (View::Differences, None, _) => return print_two(output, sources, storage, out, log),
-        (View::Rules, None, None) => return print_rules(output, out),
+        (View::Differences, None, page) => {
+            let [first, second] = request.inputs[..] else {
+                let Wrong(text) = Wrong::option("compare", "it takes two inputs");
+                run.log.text.text(&text);
+                return Ok(2);
+            };
+            let (old, new) = (&run.gather(&[first])?, &run.gather(&[second])?);
+            return match page {
+                Some(file) => run.save_page(file, old, Some(new)),
+                None => run.print_compared(old, new),
+            };
+        }
+        (View::Rules, None, None) => return Ok(run.print_rules()),
         _ => {}
     }
-    let input = &gather(Global, request.inputs, request.reading, sources, log)?;
-    if has_no_start(output, input, log) {
+    let input = &run.gather(&request.inputs)?;
+    if matches!(input, Input::Tables(_)) && request.start.is_some() {
+        tell(run.log, run.name(), &"tables, which have no start: --start is for memory");
         return Ok(2);
     }
     match (request.folder, request.page) {
-        (Some(folder), _) => save_input(output, folder, input, sources, storage, out, log),
-        (None, Some(file)) => save_page(output, file, (input, None), sources, storage, out, log),
-        (None, None) => print_input(output, input, out, log),
+        (Some(folder), _) => run.save_input(folder, input),
+        (None, Some(file)) => run.save_page(file, input, None),
+        (None, None) => run.print_input(input),
     }
 }
 
-/// Prints what differs between the two inputs that are named, or saves the page of it.
-fn print_two<S: Sources, T: Storage>(
-    output: Output<'_>,
-    sources: &mut S,
-    storage: &mut T,
-    out: &mut Out,
-    log: &mut Log,
-) -> Result<u8, Stop> {
-    let [first, second] = output.request.inputs else {
-        refuse_option(log, "compare", "it takes two inputs");
-        return Ok(2);
-    };
-    let reading = output.request.reading;
-    let old = &gather(Global, &[*first], reading, sources, log)?;
-    let new = &gather(Global, &[*second], reading, sources, log)?;
-    match output.request.page {
-        Some(file) => save_page(output, file, (old, Some(new)), sources, storage, out, log),
-        None => print_compared(output, old, new, out, log),
+impl<'r> Run<'r> {
+    fn gather(&mut self, names: &[&str]) -> Result<Input, Stop> {
+        gather(Global, names, self.request.reading, &mut self.sources, self.log)
     }
-}
 
-/// Prints that the process's arguments can't be had, as when one is not UTF-8, and returns the status.
-///
-/// Fails if the write fails.
-pub fn refuse_arguments<E: Write>(refusal: &io::Error, mut err: E) -> io::Result<u8> {
-    let why = match refusal.kind() {
-        ErrorKind::OutOfMemory => "out of memory",
-        _ => "an argument is not UTF-8",
-    };
-    writeln!(err, "acpi_dump: {why}")?;
-    Ok(2)
+    /// The name of the input, or of the first of several.
+    pub(crate) fn name(&self) -> &'r str {
+        self.request.inputs.first().copied().unwrap_or("/sys/firmware/acpi/tables")
+    }
+
+    /// The name of the input that it is compared with, or its own.
+    pub(crate) fn second_name(&self) -> &'r str {
+        self.request.inputs.get(1).copied().unwrap_or(self.name())
+    }
+
+    pub(crate) fn is_json(&self) -> bool {
+        self.request.arguments.json
+    }
+
+    /// Prints why an input isn't shown.
+    pub(crate) fn fail(&mut self, why: impl std::fmt::Display) -> Stop {
+        fail(self.log, self.name(), &why)
+    }
+
+    /// How files are saved.
+    pub(crate) fn saving(&self) -> Saving<'r> {
+        Saving { alloc: Global, is_forced: self.request.arguments.force, inputs: &self.request.inputs }
+    }
+
+    /// The status if all is shown: 3 if a table is invalid and that counts.
+    pub(crate) fn strict_status(&self, entries: &[Entry<'_>]) -> u8 {
+        let is_strict = self.request.arguments.strict;
+        if is_strict && entries.iter().any(|entry| entry.status.is_invalid()) { 3 } else { 0 }
+    }
 }

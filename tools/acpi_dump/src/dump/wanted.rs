@@ -1,13 +1,9 @@
 //! Single values of tables, by the words of `--get`.
 
-use crate::dump::options::refuse_option;
-use crate::dump::values::parse_signature;
-use acpi_programs::input::errors::{Log, Stop};
-use acpi_programs::rattle::Pieces;
-use acpi_programs::walk::aml::{Ends, Object, Value};
-use acpi_programs::walk::language::{cut_at, number_of};
-use acpi_programs::walk::walk::{Field, Group, Show, ShowObjects};
-use zacpi::sdt::Signature;
+use super::request::parse_signature;
+use crate::prelude::*;
+use acpi_programs::walk::aml::Value;
+use acpi_programs::walk::language::number_of;
 
 /// A value: a field of a table, which may be in structures, or an object that AML defines.
 #[derive(Clone, Copy)]
@@ -24,82 +20,43 @@ impl<'w> Wanted<'w> {
     /// The value that a word requests: `SIG.FIELD`, `SIG.ENTRY.FIELD`, with more entries before it if they are in
     /// others, or `SIG:OBJECT`.
     pub(crate) fn read(word: &'w str) -> Option<Wanted<'w>> {
-        let (letters, path) = cut_at(word, ':');
-        let is_object = letters.len() == 4;
-        let (letters, within, name) = if is_object {
-            (letters, "", path)
-        } else {
-            let (letters, rest) = word.two_pieces('.')?;
-            let (within, name) = rest.rsplit_once('.').unwrap_or(("", rest));
-            (letters, within, name)
+        let (letters, within, name, is_object) = match word.split_once(':') {
+            Some((letters, path)) if letters.len() == 4 => (letters, "", path, true),
+            _ => {
+                let (letters, rest) = word.split_once('.')?;
+                let (within, name) = rest.rsplit_once('.').unwrap_or(("", rest));
+                (letters, within, name, false)
+            }
         };
-        if name.is_empty() {
-            return None;
-        }
-        Some(Wanted { signature: parse_signature(letters)??, within, name, is_object })
+        let signature = parse_signature(letters)??;
+        (!name.is_empty()).then_some(Wanted { signature, within, name, is_object })
     }
 
     /// The number or the name of the structure that is in this many others.
     fn structure(&self, depth: usize) -> Option<&'w str> {
-        if self.within.is_empty() {
-            return None;
-        }
-        self.within.pieces('.').nth(depth)
+        self.within.split('.').nth(depth).filter(|_| !self.within.is_empty())
     }
 
     /// Whether it is a structure that is in this many others.
     fn is_in(&self, depth: usize, group: &Group) -> bool {
-        match self.structure(depth) {
-            Some(word) => word == group.name || number_of(word) == Some(group.number),
-            None => false,
-        }
+        self.structure(depth).is_some_and(|word| word == group.name || number_of(word) == Some(group.number))
     }
 }
 
 /// Whether a field has a name, which a number may follow if it is one of several.
 fn is_field(name: &str, shown: &Field<'_>) -> bool {
-    match name.strip_prefix(shown.label.name) {
-        Some("") => true,
-        Some(rest) => shown.number.is_some() && number_of(rest.trim_ascii()) == shown.number,
-        None => false,
-    }
+    name.strip_prefix(shown.label.name)
+        .is_some_and(|rest| rest.is_empty() || shown.number.is_some() && number_of(rest.trim_ascii()) == shown.number)
 }
 
 /// Whether a name is a path of four letters each. A segment that is shorter ends in `_`.
 fn is_path(name: &str, path: &[u8]) -> bool {
-    let names = name.strip_prefix('\\').unwrap_or(name);
-    let mut rest = path;
-    for name in names.pieces('.') {
-        if rest.len() < 4 {
-            return false;
-        }
-        let (segment, others) = rest.split_at(4);
-        if !is_segment(name.as_bytes(), segment) {
-            return false;
-        }
-        rest = others;
-    }
-    rest.is_empty()
-}
-
-/// Tests whether each word names a value.
-///
-/// Fails, after printing that, with the first that names none.
-pub(crate) fn check_wanted(words: &[&str], log: &mut Log) -> Result<(), Stop> {
-    for word in words {
-        if Wanted::read(word).is_none() {
-            return Err(refuse_option(log, "get", word));
-        }
-    }
-    Ok(())
-}
-
-/// Whether a name is a segment of a path.
-fn is_segment(name: &[u8], segment: &[u8]) -> bool {
-    match segment.strip_prefix(name) {
-        Some(rest) => !name.is_empty() && rest.iter().all(|letter| *letter == b'_'),
-        None => false,
-    }
+    let is_segment = |(name, segment): (&str, &[u8])| {
+        let rest = segment.strip_prefix(name.as_bytes());
+        !name.is_empty() && rest.is_some_and(|rest| rest.iter().all(|letter| *letter == b'_'))
+    };
+    let names = name.strip_prefix('\\').unwrap_or(name).split('.');
+    names.clone().count() * 4 == path.len() && names.zip(path.chunks(4)).all(is_segment)
 }
 
 /// Shows the first field or object with a value that is wanted to another, and nothing else.
@@ -137,7 +94,7 @@ impl<S: Show> Show for Finder<'_, S> {
     }
 
     fn end(&mut self) {
-        self.depth = self.depth.saturating_sub(1);
+        self.depth -= 1;
         self.entered = self.entered.min(self.depth);
     }
 }

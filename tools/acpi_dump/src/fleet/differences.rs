@@ -3,9 +3,8 @@
 use super::machines::Machine;
 use super::sums::Sums;
 use crate::compare::{Difference, ShowDifferences, compare, same_in};
+use crate::text::printed;
 use acpi_programs::input::entries::Entry;
-use acpi_programs::rattle::alloc::Global;
-use acpi_programs::walk::out::Out;
 
 /// A difference: the table, what is in it, and its values in the base and in the other machine. A table or a structure
 /// that one of them alone has is without values but that it is there.
@@ -25,13 +24,6 @@ impl Differing {
 
 /// Differences as they are found.
 struct Collected(Vec<Differing>);
-
-/// What a function prints.
-fn printed(print: impl FnOnce(&mut Out)) -> String {
-    let mut out = Out::new(Global);
-    print(&mut out);
-    out.printed().unwrap_or("").to_string()
-}
 
 /// The signature of a table, and of an SSDT its OEM table id.
 fn name_of(entry: &Entry<'_>) -> String {
@@ -53,19 +45,10 @@ impl ShowDifferences for Collected {
     fn pair(&mut self, old: &Entry<'_>, _new: &Entry<'_>, found: &[Difference<'_>]) {
         let table = name_of(old);
         for difference in found {
-            let path = printed(|out| {
-                if difference.part > 0 {
-                    difference.side.print_path(difference.part, out);
-                }
-            });
-            let place = match (path.is_empty(), difference.name.is_empty()) {
-                (false, false) => format!("{path}: {}", difference.name),
-                (_, true) => path,
-                (true, _) => difference.name.to_string(),
-            };
-            let value = |value: Option<&str>| value.map(str::to_string);
-            let (old, new) = (value(difference.old), value(difference.new));
-            self.0.push(Differing { table: table.clone(), place, old, new });
+            let (path, name) = (difference.structure().unwrap_or_default(), &difference.name);
+            let colon = if path.is_empty() || name.is_empty() { "" } else { ": " };
+            let [old, new] = [&difference.old, &difference.new].map(|value| value.as_deref().map(str::to_string));
+            self.0.push(Differing { table: table.clone(), place: format!("{path}{colon}{name}"), old, new });
         }
     }
 }
@@ -83,7 +66,6 @@ fn between(old: &[Entry<'_>], new: &[Entry<'_>], ignored: &[&str], sums: &mut Su
     let left_of_old: Vec<Entry<'_>> = (0..old.len()).filter(|at| !is_same(old, *at, new)).map(|at| old[at]).collect();
     let left_of_new: Vec<Entry<'_>> = (0..new.len()).filter(|at| !is_same(new, *at, old)).map(|at| new[at]).collect();
     let mut found = Collected(Vec::new());
-    // Memory that runs out ends the program in Rust.
     compare(&left_of_old, &left_of_new, ignored, &mut found);
     found.0
 }

@@ -30,7 +30,7 @@ pub(super) struct Found {
 }
 
 /// The machines that inputs name, in order, those in a folder by their names.
-pub(super) fn paths_of(inputs: &[&str]) -> Vec<Found> {
+pub(super) fn paths_of(inputs: &[String]) -> Vec<Found> {
     let mut found = Vec::new();
     for input in inputs {
         add_paths(input, DEEPEST, &mut found);

@@ -10,8 +10,7 @@ mod report;
 mod sources;
 mod sums;
 
-use crate::arguments::ArgMatches;
-use crate::dump::options::command;
+use crate::dump::arguments::Arguments;
 use machines::{Machine, paths_of, read_machine};
 use progress::Progress;
 use report::{Style, print};
@@ -102,15 +101,6 @@ impl Fleet {
     }
 }
 
-/// The status of the program, if the words after its name request a fleet and are a command.
-pub fn status(words: &[&str]) -> Option<u8> {
-    if !words.contains(&"--fleet") {
-        return None;
-    }
-    let matches = ArgMatches::of(command(), words).ok()?;
-    matches.get_flag("fleet").then(|| run(&matches))
-}
-
 /// Prints why words are no command.
 fn usage(option: &str, why: &str) -> u8 {
     eprintln!("acpi_dump: --{option}: {why}");
@@ -118,23 +108,24 @@ fn usage(option: &str, why: &str) -> u8 {
     2
 }
 
-fn run(matches: &ArgMatches) -> u8 {
-    if let Some(other) = matches.names().find(|name| !BESIDE.contains(name)) {
+/// The status of a run that requests a fleet.
+pub(crate) fn run(arguments: &Arguments) -> u8 {
+    if let Some(other) = arguments.names.iter().find(|name| !BESIDE.contains(&name.as_str())) {
         return usage(other, "it isn't for --fleet");
     }
-    let most = match matches.get_str("max-bytes").map(str::parse) {
+    let most = match arguments.max_bytes.as_deref().map(str::parse) {
         None => 1 << 30,
         Some(Ok(most)) => most,
         Some(Err(_)) => return usage("max-bytes", "NUMBER, in decimal digits"),
     };
-    let mut ignored = matches.get_strs("ignore").unwrap_or(&[]).to_vec();
-    if matches.get_flag("alike") {
+    let mut ignored: Vec<_> = arguments.ignore.iter().map(String::as_str).collect();
+    if arguments.alike {
         ignored.extend(MAY_DIFFER);
     }
-    let request = Request { base: matches.get_str("base"), ignored, most };
-    let style = if matches.get_flag("json") { Style::Json } else { Style::Text };
+    let request = Request { base: arguments.base.as_deref(), ignored, most };
+    let style = if arguments.json { Style::Json } else { Style::Text };
     let mut out = std::io::BufWriter::new(acpi_programs::rattle::HostRuntime::new().stdout());
-    let printed = gather_and_print(matches, &request, style, &mut out);
+    let printed = gather_and_print(arguments, &request, style, &mut out);
     match printed.and_then(|status| out.flush().map(|()| status)) {
         Ok(status) => status,
         Err(error) => {
@@ -146,13 +137,13 @@ fn run(matches: &ArgMatches) -> u8 {
 
 /// Reads the machines, and prints what is requested of them.
 fn gather_and_print(
-    matches: &ArgMatches,
+    arguments: &Arguments,
     request: &Request<'_>,
     style: Style,
     out: &mut impl Write,
 ) -> std::io::Result<u8> {
     let (mut fleet, mut sums) = (Fleet::default(), Sums::new(&request.ignored));
-    let paths = paths_of(matches.get_strs("input").unwrap_or(&[]));
+    let paths = paths_of(&arguments.input);
     let mut progress = Progress::new(paths.len());
     for path in paths {
         let read = path.why.map_or_else(|| read_machine(&path.name, request.most), Err);
@@ -167,8 +158,8 @@ fn gather_and_print(
     let is_incomplete = !has_base || fleet.members.iter().any(|member| member.found.is_err());
     let is_invalid = fleet.members.iter().any(|member| matches!(member.found, Ok((_, _, 1..))));
     Ok(match () {
-        () if is_incomplete || matches.get_flag("exit-code") && fleet.groups.len() > 1 => 1,
-        () if matches.get_flag("strict") && is_invalid => 3,
+        () if is_incomplete || arguments.exit_code && fleet.groups.len() > 1 => 1,
+        () if arguments.strict && is_invalid => 3,
         () => 0,
     })
 }

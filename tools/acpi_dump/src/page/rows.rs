@@ -10,7 +10,6 @@ use super::marks::{Change, Mark};
 use super::sheet::{Sheet, Standing};
 use super::values::{print_change, print_digest, print_reference, print_value, structure_of};
 use crate::compare::outline::{BYTES, Item, MALFORMED, Part};
-use crate::text::printed;
 use acpi_programs::input::entries::header_of;
 use acpi_programs::walk::language::{number_at, size};
 use zacpi::sdt::SdtHeader;
@@ -295,9 +294,9 @@ impl Rows<'_, '_, '_> {
                     &[Offset(item.offset), Name(item), Value(old.digits(item)), Text(old.meaning(item))],
                 )
             } else {
-                let path = printed(|path| old.print_path(*part, path));
+                let path = old.path_of(*part);
                 let row = "<tr class=\"del\"><td>$<th scope=\"row\"><del>$</del><td><td>only in the first\n";
-                self.out.fill(row, &[Offset(old.offset(*part)), Text(&path)])
+                self.out.fill(row, &[Offset(old.parts[*part].offset), Text(&path)])
             }
         }
         self.end();

@@ -1,38 +1,31 @@
 //! What differs between two inputs.
 
-use super::read::tables_in;
-use super::{Output, strict_status};
 use crate::compare::{DifferenceLines, compare};
-use acpi_programs::input::errors::{Log, Stop};
+use crate::document::{self, Compared, Document, Tables};
+use crate::dump::run::Run;
+use crate::prelude::*;
 use acpi_programs::input::gather::Input;
-use acpi_programs::walk::out::Out;
 
-/// Prints what differs between two inputs.
-///
-/// Fails, after printing why, if one has no tables.
-pub(crate) fn print_compared(
-    output: Output<'_>,
-    first: &Input,
-    second: &Input,
-    out: &mut Out,
-    log: &mut Log,
-) -> Result<u8, Stop> {
-    let other = output.second();
-    let old = &tables_in(output, first, log)?.entries;
-    let new = &tables_in(other, second, log)?.entries;
-    let ignored = output.request.ignored;
-    let differ = if output.request.is_json {
-        let mut document = output.document("tables");
-        let differ = compare(old, new, ignored, &mut document);
-        document.print("compare", out);
-        differ
-    } else {
-        let names = (output.name(), other.name());
-        let lines = &mut DifferenceLines { names, out };
-        compare(old, new, ignored, lines)
-    };
-    if differ && output.request.is_exit_code {
-        return Ok(1);
+impl Run<'_> {
+    /// Prints what differs between two inputs.
+    ///
+    /// Fails, after printing why, if one has no tables.
+    pub(crate) fn print_compared(&mut self, first: &Input, second: &Input) -> Result<u8, Stop> {
+        let names = (self.name(), self.second_name());
+        let (old, new) = (self.tables_in(names.0, first)?.entries, self.tables_in(names.1, second)?.entries);
+        let ignored = &self.request.ignored;
+        let differ = if self.is_json() {
+            let mut tables = Compared::default();
+            let differ = compare(&old, &new, ignored, &mut tables);
+            let tables = Tables::Compared(tables.0);
+            document::print(&Document::of_tables(&self.request.inputs, "compare", tables), self.out);
+            differ
+        } else {
+            compare(&old, &new, ignored, &mut DifferenceLines { names, out: &mut *self.out })
+        };
+        if differ && self.request.arguments.exit_code {
+            return Ok(1);
+        }
+        Ok(self.strict_status(&old).max(self.strict_status(&new)))
     }
-    Ok(strict_status(output, old).max(strict_status(output, new)))
 }

@@ -1,72 +1,50 @@
 //! The RSDPs of a memory, valid or not.
 
-use super::Output;
-use super::read::memory_of;
-use crate::json::Token;
-use crate::summary::document::Document;
+use crate::document::{self, Document, Rsdp, wide};
+use crate::dump::run::Run;
+use crate::prelude::*;
 use acpi_programs::input::candidates::{Candidate, candidates};
-use acpi_programs::input::errors::{Log, Stop, fail};
 use acpi_programs::input::gather::Input;
-use acpi_programs::rattle::alloc::Global;
-use acpi_programs::walk::out::Out;
 
-/// Prints a line for each RSDP: its address, what it points to, and what the checks say.
-fn print_candidates(found: &[Candidate], out: &mut Out) {
-    for candidate in found {
-        write!(out, "RSDP at {:016x}", candidate.address);
-        if let Some(fields) = candidate.fields {
-            let numbers = [fields.revision as u64, fields.rsdt as u64];
-            out.words(" revision % RSDT #", &numbers);
-            if let Some(xsdt) = fields.xsdt {
-                out.words(" XSDT #", &[xsdt]);
-            }
-        }
-        match candidate.refusal {
-            Some(refusal) => writeln!(out, ": {refusal}"),
-            None => out.text(": ok\n"),
-        }
+/// The line of an RSDP: its address, what it points to, and what the checks say.
+fn line_of(candidate: &Candidate) -> String {
+    let mut line = format!("RSDP at {:016x}", candidate.address);
+    if let Some(fields) = candidate.fields {
+        line += &format!(" revision {} RSDT {:#x}", fields.revision, fields.rsdt);
+        line += &fields.xsdt.map(|xsdt| format!(" XSDT {xsdt:#x}")).unwrap_or_default();
+    }
+    format!("{line}: {}\n", status_of(candidate))
+}
+
+fn status_of(candidate: &Candidate) -> String {
+    candidate.refusal.map_or("ok".to_string(), |refusal| refusal.to_string())
+}
+
+fn rsdp_of(candidate: &Candidate) -> Rsdp {
+    let fields = candidate.fields;
+    Rsdp {
+        address: wide(candidate.address),
+        revision: fields.map(|fields| fields.revision),
+        rsdt: fields.map(|fields| wide(fields.rsdt.into())),
+        status: status_of(candidate),
+        valid: candidate.refusal.is_none(),
+        xsdt: fields.and_then(|fields| fields.xsdt).map(wide),
     }
 }
 
-/// Adds RSDPs.
-fn add_candidates(document: &mut Document<'_>, found: &[Candidate]) {
-    for candidate in found {
-        document.token(Token::BeginObject);
-        document.address("address", candidate.address);
-        if let Some(fields) = candidate.fields {
-            document.number("revision", fields.revision as u64);
-            document.address("rsdt", fields.rsdt as u64);
+impl Run<'_> {
+    /// Prints the RSDPs of a memory.
+    pub(super) fn print_found(&mut self, input: &Input) -> Result<u8, Stop> {
+        let Input::Memory(image) = input else {
+            return Err(self.fail("tables, not memory: there is no RSDP to find"));
+        };
+        let found = &candidates(Global, &self.memory_of(self.name(), image)?)?;
+        if self.is_json() {
+            let rsdps = found.iter().map(rsdp_of).collect();
+            document::print(&Document::of_rsdps(&self.request.inputs, rsdps), self.out);
+        } else {
+            found.iter().for_each(|candidate| self.out.text(&line_of(candidate)));
         }
-        match &candidate.refusal {
-            Some(refusal) => document.shown("status", refusal),
-            None => document.text("status", "ok"),
-        }
-        document.flag("valid", candidate.refusal.is_none());
-        if let Some(fields) = candidate.fields
-            && let Some(xsdt) = fields.xsdt
-        {
-            document.address("xsdt", xsdt);
-        }
-        document.token(Token::EndObject);
+        if found.is_empty() { Err(self.fail("no RSDP")) } else { Ok(0) }
     }
-}
-
-/// Prints the RSDPs of a memory.
-pub(super) fn print_found(output: Output<'_>, input: &Input, out: &mut Out, log: &mut Log) -> Result<u8, Stop> {
-    let Input::Memory(image) = input else {
-        let why = "tables, not memory: there is no RSDP to find";
-        return Err(fail(log, output.name(), &why));
-    };
-    let found = &candidates(Global, &memory_of(output, image, log)?)?;
-    if output.request.is_json {
-        let mut document = output.document("rsdps");
-        add_candidates(&mut document, found);
-        document.print("find", out);
-    } else {
-        print_candidates(found, out);
-    }
-    if found.is_empty() {
-        return Err(fail(log, output.name(), &"no RSDP"));
-    }
-    Ok(0)
 }

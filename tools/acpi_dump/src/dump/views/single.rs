@@ -1,18 +1,9 @@
 //! Single values of tables.
 
-use super::Output;
+use crate::document::{self, Document, Rows, Value};
+use crate::dump::run::Run;
 use crate::dump::wanted::{Finder, Wanted};
-use crate::json::Token;
-use crate::summary::document::Document;
-use crate::text::printed;
-use acpi_programs::input::entries::Entry;
-use acpi_programs::input::errors::{Log, Stop, fail};
-use acpi_programs::rattle::alloc::Global;
-use acpi_programs::walk::aml::{Ends, Object};
-use acpi_programs::walk::fields::{print_meaning, print_text, print_value};
-use acpi_programs::walk::language::Meaning;
-use acpi_programs::walk::out::Out;
-use acpi_programs::walk::walk::{Field, Show, ShowObjects, walk_with_objects};
+use crate::prelude::*;
 
 /// A value as it is: a line.
 struct Raw<'r> {
@@ -22,105 +13,64 @@ struct Raw<'r> {
 impl Show for Raw<'_> {
     fn field(&mut self, shown: &Field<'_>) {
         match shown.label.meaning {
-            Meaning::Text => print_text(without_zeros(shown.bytes), self.out),
-            Meaning::Wide | Meaning::Guid => print_end(shown, self.out),
+            Meaning::Text => {
+                let end = shown.bytes.iter().rposition(|byte| *byte != 0).map_or(0, |last| last + 1);
+                print_text(&shown.bytes[..end], self.out);
+            }
+            // What it means, without what a GUID is called.
+            kind @ (Meaning::Wide | Meaning::Guid) => {
+                let meaning = printed(|out| print_meaning(shown, out));
+                let text = meaning.trim_ascii_start();
+                let is_guid = matches!(kind, Meaning::Guid);
+                let digits = text.split_once("  ").filter(|_| is_guid).map(|(digits, _)| digits);
+                self.out.text(digits.unwrap_or(text));
+            }
             _ => print_value(shown, self.out),
         }
-        self.out.text("\n")
+        self.out.text("\n");
     }
 }
 
 impl ShowObjects for Raw<'_> {
     fn object(&mut self, object: &Object<'_>) {
-        let path = object.path.unwrap_or(&[]);
-        object.value.print_raw(path, self.out);
-        self.out.text("\n")
+        object.value.print_raw(object.path.unwrap_or(&[]), self.out);
+        self.out.text("\n");
     }
 
     fn ends(&mut self, _offset: u64, _why: Ends) {}
 }
 
-/// A text without the zeros at its end.
-fn without_zeros(bytes: &[u8]) -> &[u8] {
-    let end = bytes.iter().rposition(|byte| *byte != 0).map_or(0, |last| last + 1);
-    &bytes[..end]
-}
-
-/// Prints what a text of other letters or a GUID means, without the spaces before it and what a GUID is called.
-fn print_end(shown: &Field<'_>, out: &mut Out) {
-    let meaning = printed(|out| print_meaning(shown, out));
-    let text = meaning.trim_ascii_start();
-    let is_guid = matches!(shown.label.meaning, Meaning::Guid);
-    match text.split_once("  ") {
-        Some((digits, _)) if is_guid => out.text(digits),
-        _ => out.text(text),
-    }
-}
-
 /// Shows a value of the first table that has it, and returns whether one has.
 fn show_value<S: ShowObjects>(entries: &[Entry<'_>], wanted: Wanted<'_>, show: &mut S) -> bool {
-    for entry in entries {
-        if let Some(signature) = entry.signature()
-            && entry.has(wanted.signature)
-        {
-            let mut finder = Finder::new(wanted, &mut *show);
+    entries.iter().filter(|entry| entry.has(wanted.signature)).any(|entry| {
+        let mut finder = Finder::new(wanted, &mut *show);
+        if let Some(signature) = entry.signature() {
             walk_with_objects(Global, signature, entry.bytes, &mut finder);
-            if finder.is_found {
-                return true;
+        }
+        finder.is_found
+    })
+}
+
+impl Run<'_> {
+    /// Prints the values that are requested.
+    pub(super) fn print_values(&mut self, entries: &[Entry<'_>]) -> u8 {
+        let mut values = Vec::new();
+        for (get, wanted) in &self.request.wanted {
+            let is_found = if self.is_json() {
+                let mut rows = Rows::default();
+                show_value(entries, *wanted, &mut rows);
+                values.push(Value { found: rows.into_row(), get });
+                values.last().is_some_and(|value| value.found.is_some())
+            } else {
+                show_value(entries, *wanted, &mut Raw { out: &mut *self.out })
+            };
+            if !is_found {
+                self.fail(format_args!("no value {get}"));
             }
         }
-    }
-    false
-}
-
-/// Tells that no table has a value.
-fn tell_missing(output: Output<'_>, word: &str, log: &mut Log) {
-    fail(log, output.name(), &format_args!("no value {}", word));
-}
-
-/// Prints the values of these words, each on a line.
-fn print_lines(output: Output<'_>, words: &[&str], entries: &[Entry<'_>], out: &mut Out, log: &mut Log) {
-    for word in words {
-        let Some(wanted) = Wanted::read(word) else {
-            continue;
-        };
-        if !show_value(entries, wanted, &mut Raw { out: &mut *out }) {
-            tell_missing(output, word, log);
+        if self.is_json() {
+            document::print(&Document::of_values(&self.request.inputs, values), self.out);
         }
+        self.strict_status(entries)
     }
-}
-
-/// Adds the values of these words to a document, each with its word.
-fn add_values(output: Output<'_>, words: &[&str], entries: &[Entry<'_>], document: &mut Document<'_>, log: &mut Log) {
-    for word in words {
-        let Some(wanted) = Wanted::read(word) else {
-            continue;
-        };
-        document.token(Token::BeginObject);
-        document.token(Token::Key("found"));
-        if !show_value(entries, wanted, &mut *document) {
-            document.token(Token::Null);
-            tell_missing(output, word, log);
-        }
-        document.text("get", word);
-        document.token(Token::EndObject);
-    }
-}
-
-/// Prints the values that are requested.
-pub(super) fn print_values(
-    output: Output<'_>,
-    entries: &[Entry<'_>],
-    out: &mut Out,
-    log: &mut Log,
-) -> Result<u8, Stop> {
-    let words = output.request.wanted;
-    if output.request.is_json {
-        let mut document = output.document("values");
-        add_values(output, words, entries, &mut document, log);
-        document.print("get", out);
-    } else {
-        print_lines(output, words, entries, out, log);
-    }
-    Ok(super::strict_status(output, entries))
 }
