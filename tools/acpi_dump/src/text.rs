@@ -1,7 +1,7 @@
 //! What the core prints and returns, as std has it.
 
-use acpi_programs::rattle::alloc::{AllocError, Global};
-use acpi_programs::walk::out::Out;
+use crate::prelude::*;
+use acpi_programs::rattle::alloc::AllocError;
 
 /// The text of what a call prints.
 pub(crate) fn printed(print: impl FnOnce(&mut Out)) -> String {

@@ -6,14 +6,13 @@ use crate::check::numbers::{Kept, Numbers};
 use crate::check::pieces::Pieces;
 use crate::check::rules::rules;
 use crate::check::spans::{Span, overlaps};
-use acpi_programs::walk::language::size;
+use crate::prelude::*;
 use acpi_programs::walk::share::share_of;
 use zacpi::base::bytes::skip;
 use zacpi::base::entries::split_front;
 use zacpi::madt::MADT_GRAMMAR;
 use zacpi::numa::Distances;
 use zacpi::numa::srat::{SRAT_GRAMMAR, SratEntry};
-use zacpi::sdt::{Signature, field};
 
 rules! {
     SRAT_NO_DOMAIN = Warning "srat-no-domain", "ACPI 6.5, section 5.2.16",
@@ -112,10 +111,7 @@ pub(crate) fn check_affinities(machine: &Machine<'_>, findings: &mut Findings) {
     let mut numbers = Numbers::new();
     add_entries(srat, &mut numbers);
     let madt = machine.first(Signature::MADT);
-    let has_processors = match madt {
-        Some((_, madt)) => add_processors(madt, &mut numbers),
-        None => false,
-    };
+    let has_processors = madt.is_some_and(|(_, madt)| add_processors(madt, &mut numbers));
     numbers.sort();
     if let Some((_, slit)) = machine.first(Signature::SLIT) {
         check_localities(Distances::over(slit).localities(), &numbers, findings);
@@ -208,15 +204,8 @@ fn domain_of(entry: &SratEntry) -> (u32, usize) {
         SratEntry::LocalX2Apic(it) => (it.domain, 4),
         SratEntry::Gicc(it) => (it.domain, 2),
         SratEntry::GenericInitiator(it) | SratEntry::GenericPort(it) => (it.domain, 4),
-        other => (its_domain(other), 2),
-    }
-}
-
-/// The domain of an entry of an Interrupt Translation Service, the type that is left.
-fn its_domain(entry: &SratEntry) -> u32 {
-    match entry {
-        SratEntry::GicIts(it) => it.domain,
-        _ => 0,
+        SratEntry::GicIts(it) => (it.domain, 2),
+        _ => (0, 2),
     }
 }
 
@@ -231,9 +220,8 @@ fn check_processors(srat: usize, madt: usize, numbers: &Numbers, findings: &mut 
         };
         if !numbers.has(other + by_uid, number) {
             let what = if by_uid == 0 { "APIC ID" } else { "UID" };
-            write!(findings.text, "the processor with the {what} {number} {why}");
             findings.table = table;
-            findings.end(id, *offset);
+            findings.tell(id, *offset, format!("the processor with the {what} {number} {why}"));
         }
     }
 }

@@ -12,13 +12,11 @@ use crate::check::headers::TABLE_MALFORMED;
 use crate::check::machine::{Machine, table_of};
 use crate::check::numbers::Numbers;
 use crate::check::rules::rules;
-use acpi_programs::input::entries::{Entry, own_signature};
+use crate::prelude::*;
 use acpi_programs::input::status::Status;
-use acpi_programs::walk::fields::print_path;
-use acpi_programs::walk::language::size;
+use acpi_programs::walk::aml::constant::{elements_of, next_element};
 use acpi_programs::walk::walk::has_aml;
 use names::Names;
-use zacpi::sdt::Signature;
 
 rules! {
     AML_TWICE = Error "aml-twice", "ACPI 6.5, section 5.3",
@@ -159,8 +157,7 @@ fn add_table<'a>(number: usize, entry: &Entry<'a>, names: &mut Names<'a>, findin
         && !matches!(entry.status, Status::Refused(_))
     {
         findings.table = number;
-        why.print(&mut findings.text);
-        findings.end(&TABLE_MALFORMED, size(offset));
+        findings.tell(&TABLE_MALFORMED, size(offset), printed(|out| why.print(out)));
     }
 }
 
@@ -168,36 +165,33 @@ fn add_table<'a>(number: usize, entry: &Entry<'a>, names: &mut Names<'a>, findin
 /// object.
 fn check_twice(machine: &Machine<'_>, names: &Names<'_>, findings: &mut Findings) {
     let mut twice = Numbers::new();
-    let mut before = None;
-    for (_, key, number) in names.keys.all.iter() {
-        if before == Some(*key) {
-            twice.push(0, *key, *number);
-        }
-        before = Some(*key);
-    }
-    twice.sort();
-    for (_, key, number) in twice.all.iter() {
-        let (Some(first), Some(it)) = (names.find(*key), names.all.get(*number)) else {
+    twice.all.extend(names.keys.all.windows(2).filter(|pair| pair[0].1 == pair[1].1).map(|pair| pair[1]));
+    for (_, key, number) in &twice.all {
+        let (Some(first), it) = (names.find(*key), &names.all[*number]) else {
             continue;
         };
         if twice.has(0, it.scope) {
             continue;
         }
         findings.table = it.table;
-        print_path(names.path(it), &mut findings.text);
-        let numbers = [first.offset as u64];
-        findings.text.words(" is also at #", &numbers);
-        if first.table != it.table {
-            findings.text.text(" of the ");
-            let signature = name_of(machine, first.table);
-            findings.text.bytes(signature);
-        }
-        findings.end(&AML_TWICE, it.offset);
+        let signature = own_signature(machine.entries[first.table].bytes).to_bytes();
+        let of = if first.table == it.table { String::new() } else { format!(" of the {}", signature.escape_ascii()) };
+        let message = format!("{} is also at {:#x}{of}", path_text(names.path(it)), first.offset);
+        findings.tell(&AML_TWICE, it.offset, message);
     }
 }
 
-/// The signature of the table with a number among the entries.
-fn name_of<'a>(machine: &Machine<'a>, number: usize) -> &'a [u8] {
-    let entry = machine.entries.get(number);
-    entry.and_then(|it| it.bytes.get(..4)).unwrap_or(&[])
+/// A path as it is printed.
+fn path_text(segments: &[u8]) -> String {
+    printed(|out| print_path(segments, out))
+}
+
+/// The elements of a package that are set, each with how many bytes of the package there are from it on.
+fn elements_in(data: &[u8]) -> Option<impl Iterator<Item = (&[u8], usize)>> {
+    let (_, mut rest) = elements_of(data)?;
+    Some(std::iter::from_fn(move || {
+        let ((element, others), left) = (next_element(rest)?, rest.len());
+        rest = others;
+        (!element.is_empty()).then_some((element, left))
+    }))
 }

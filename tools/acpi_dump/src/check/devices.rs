@@ -6,8 +6,8 @@ use crate::check::machine::Machine;
 use crate::check::pieces::Pieces;
 use crate::check::rules::rules;
 use crate::check::spans::{Span, overlaps};
+use crate::prelude::*;
 use zacpi::mcfg::McfgEntryIter;
-use zacpi::sdt::{Signature, field};
 
 rules! {
     MCFG_BUSES = Error "mcfg-buses", "PCI Firmware Specification 3.3, section 4.1.2",
@@ -80,8 +80,7 @@ pub(crate) fn check_console(machine: &Machine<'_>, findings: &mut Findings) {
 pub(crate) fn check_regions(mcfg: &[u8], findings: &mut Findings) {
     let mut buses = Vec::new();
     let mut memory = Vec::new();
-    let mut offset = 44usize;
-    for region in McfgEntryIter::over(mcfg) {
+    for (region, offset) in McfgEntryIter::over(mcfg).zip((44..).step_by(16)) {
         let (first, last) = (region.bus_number_start as u64, region.bus_number_end as u64);
         let (base, segment) = (region.base_address, region.pci_segment_group as u64);
         if last < first {
@@ -89,13 +88,10 @@ pub(crate) fn check_regions(mcfg: &[u8], findings: &mut Findings) {
         } else {
             check_base(offset, base, last, findings);
             let (more, owner) = (last - first, segment << 16 | first << 8 | last); // the segment and its buses
-            let bus = Span::of(segment << 8 | first, more, offset, owner);
             let start = base.saturating_add(first << 20);
-            let bytes = Span::of(start, more << 20 | 0xfffff, offset, owner);
-            buses.push(bus);
-            memory.push(bytes);
+            buses.push(Span::of(segment << 8 | first, more, offset, owner));
+            memory.push(Span::of(start, more << 20 | 0xfffff, offset, owner));
         }
-        offset += 16;
     }
     for (before, region) in overlaps(&mut buses) {
         let numbers = &[region.first & 0xff, before.offset as u64];

@@ -3,8 +3,7 @@
 use crate::check::findings::Findings;
 use crate::check::machine::Machine;
 use crate::check::rules::rules;
-use acpi_programs::input::entries::{Entry, Place};
-use zacpi::sdt::{Signature, field};
+use crate::prelude::*;
 
 rules! {
     FACS_ALIGNMENT = Warning "facs-alignment", "ACPI 6.5, section 5.2.10",

@@ -4,7 +4,7 @@ use crate::check::findings::Findings;
 use crate::check::machine::Machine;
 use crate::check::pieces::Pieces;
 use crate::check::rules::rules;
-use zacpi::sdt::{Signature, field};
+use crate::prelude::*;
 
 rules! {
     FADT_DSDT_DIFFERS = Warning "fadt-dsdt-differs", "ACPI 6.5, section 5.2.9",
@@ -188,13 +188,12 @@ fn check_block(fadt: &[u8], block: Block, is_reduced: bool, findings: &mut Findi
         findings.add(&FADT_SPACE, wide, &[space]);
     }
     if address != 0 && port != 0 && (address != port || space != 1) {
-        write!(findings.text, "0x{address:x} in space {space}, and {name} is port 0x{port:x}");
-        findings.end(&FADT_BLOCK_DIFFERS, wide);
+        let message = format!("0x{address:x} in space {space}, and {name} is port 0x{port:x}");
+        findings.tell(&FADT_BLOCK_DIFFERS, wide, message);
     }
     // A width has eight bits, so that 32 bytes don't fit it.
     if address != 0 && length < 32 && width != 8 * length {
-        write!(findings.text, "{width} bits wide, and {name} has {length} bytes");
-        findings.end(&FADT_BLOCK_WIDTH, wide);
+        findings.tell(&FADT_BLOCK_WIDTH, wide, format!("{width} bits wide, and {name} has {length} bytes"));
     }
 }
 

@@ -3,15 +3,11 @@
 use crate::check::devices::register_at;
 use crate::check::findings::Findings;
 use crate::check::rules::rules;
-use acpi_programs::input::entries::{Entry, own_signature};
+use crate::prelude::*;
 use acpi_programs::input::status::Status;
-use acpi_programs::rattle::Pieces;
-use acpi_programs::walk::fault::Fault;
 use acpi_programs::walk::fields::unnamed_in;
-use acpi_programs::walk::language::{cut_at, is_chosen, next_word, number_of, size};
-use acpi_programs::walk::walk::{Field, Show, walk_table};
-use zacpi::AcpiError;
-use zacpi::sdt::field;
+use std::fmt::{self, Display, Formatter};
+use std::ops::RangeInclusive;
 
 rules! {
     HEADER_SUM = Error "header-sum", "ACPI 6.5, section 5.2.6",
@@ -65,51 +61,85 @@ rules! {
          specification newer than these rules, nothing is wrong.";
 }
 
-/// The forms of tables: the signature, the revision or the first and the last one that have it, and the length: the
-/// least one and, after `+`, steps from that on, or after `/` further ones, as FADTs of later revisions may have the
-/// fields of earlier ones alone. Each table's own specification has them.
-const FORMS: &str = "\
-RSDT 1 36+4
-XSDT 1 36+8
-FACP 1 116
-FACP 2 132
-FACP 3-6 244/268/276
-DSDT 1-2 36+1
-SSDT 1-2 36+1
-APIC 1-7 44+1
-SBST 1 48
-ECDT 1 66+1
-SRAT 1-3 48+1
-SLIT 1 44+1
-MSCT 1 56+1
-BGRT 1 56
-FPDT 1 36+1
-GTDT 1 80
-GTDT 2-3 96+1
-PCCT 1-2 48+1
-PPTT 1-3 36+1
-HMAT 1-2 40+1
-HEST 1-2 40+1
-BERT 1 48
-ERST 1 48+32
-EINJ 1-2 48+32
-NFIT 1 40+1
-HPET 1 56
-MCFG 1 44+16
-SPCR 1-3 80
-SPCR 4 88+1
-DBGP 1 52
-DBG2 0 44+1
-WAET 1 40
-TPM2 3-5 52+1
-BOOT 1 40
-WSMT 1 40
-UEFI 1 54+1
-TCPA 0-255 50+1
-DMAR 0-255 48+1
-IVRS 0-255 48+1
-IORT 0-255 48+1
-VIOT 0-255 48+1";
+/// The lengths that a form of a table has.
+enum Lengths {
+    OneOf(&'static [u64]),
+    /// A least one and, in steps, those from that on.
+    Steps(u64, u64),
+}
+
+use Lengths::{OneOf, Steps};
+
+/// The forms of tables: the signature, the revisions that have it, and the lengths. FADTs of later revisions may have
+/// the fields of earlier ones alone. Each table's own specification has them.
+static FORMS: [(&str, RangeInclusive<u64>, Lengths); 41] = [
+    ("RSDT", 1..=1, Steps(36, 4)),
+    ("XSDT", 1..=1, Steps(36, 8)),
+    ("FACP", 1..=1, OneOf(&[116])),
+    ("FACP", 2..=2, OneOf(&[132])),
+    ("FACP", 3..=6, OneOf(&[244, 268, 276])),
+    ("DSDT", 1..=2, Steps(36, 1)),
+    ("SSDT", 1..=2, Steps(36, 1)),
+    ("APIC", 1..=7, Steps(44, 1)),
+    ("SBST", 1..=1, OneOf(&[48])),
+    ("ECDT", 1..=1, Steps(66, 1)),
+    ("SRAT", 1..=3, Steps(48, 1)),
+    ("SLIT", 1..=1, Steps(44, 1)),
+    ("MSCT", 1..=1, Steps(56, 1)),
+    ("BGRT", 1..=1, OneOf(&[56])),
+    ("FPDT", 1..=1, Steps(36, 1)),
+    ("GTDT", 1..=1, OneOf(&[80])),
+    ("GTDT", 2..=3, Steps(96, 1)),
+    ("PCCT", 1..=2, Steps(48, 1)),
+    ("PPTT", 1..=3, Steps(36, 1)),
+    ("HMAT", 1..=2, Steps(40, 1)),
+    ("HEST", 1..=2, Steps(40, 1)),
+    ("BERT", 1..=1, OneOf(&[48])),
+    ("ERST", 1..=1, Steps(48, 32)),
+    ("EINJ", 1..=2, Steps(48, 32)),
+    ("NFIT", 1..=1, Steps(40, 1)),
+    ("HPET", 1..=1, OneOf(&[56])),
+    ("MCFG", 1..=1, Steps(44, 16)),
+    ("SPCR", 1..=3, OneOf(&[80])),
+    ("SPCR", 4..=4, Steps(88, 1)),
+    ("DBGP", 1..=1, OneOf(&[52])),
+    ("DBG2", 0..=0, Steps(44, 1)),
+    ("WAET", 1..=1, OneOf(&[40])),
+    ("TPM2", 3..=5, Steps(52, 1)),
+    ("BOOT", 1..=1, OneOf(&[40])),
+    ("WSMT", 1..=1, OneOf(&[40])),
+    ("UEFI", 1..=1, Steps(54, 1)),
+    ("TCPA", 0..=255, Steps(50, 1)),
+    ("DMAR", 0..=255, Steps(48, 1)),
+    ("IVRS", 0..=255, Steps(48, 1)),
+    ("IORT", 0..=255, Steps(48, 1)),
+    ("VIOT", 0..=255, Steps(48, 1)),
+];
+
+impl Lengths {
+    fn least(&self) -> u64 {
+        match self {
+            OneOf(lengths) => lengths[0],
+            Steps(least, _) => *least,
+        }
+    }
+
+    fn have(&self, length: u64) -> bool {
+        match self {
+            OneOf(lengths) => lengths.contains(&length),
+            Steps(least, step) => length >= *least && (length - least) % step == 0,
+        }
+    }
+}
+
+impl Display for Lengths {
+    fn fmt(&self, f: &mut Formatter<'_>) -> fmt::Result {
+        match self {
+            OneOf(lengths) => f.write_str(&lengths.iter().map(u64::to_string).collect::<Vec<_>>().join("/")),
+            Steps(least, step) => write!(f, "{least}+{step}"),
+        }
+    }
+}
 
 /// Judges a table's header, if it has one, and each field by itself.
 pub(crate) fn check_header(entry: &Entry<'_>, findings: &mut Findings) {
@@ -152,8 +182,7 @@ fn check_status(entry: &Entry<'_>, findings: &mut Findings) {
     }
     let offset = match entry.status {
         Status::WrongSum { is, should, .. } => {
-            write!(findings.text, "is 0x{is:02x}, should be 0x{should:02x}");
-            return findings.end(&HEADER_SUM, 9);
+            return findings.tell(&HEADER_SUM, 9, format!("is 0x{is:02x}, should be 0x{should:02x}"));
         }
         Status::Longer(over) => {
             let numbers = [field(entry.bytes, 4, 4), over as u64];
@@ -163,91 +192,45 @@ fn check_status(entry: &Entry<'_>, findings: &mut Findings) {
         Status::Refused(_) => 0,
         _ => return,
     };
-    findings.add_value(&HEADER_REFUSED, offset, &entry.status);
-}
-
-/// The length of the form that tables of a name have in a revision, if there is one, and whether forms of the name are
-/// known.
-fn form_of(name: &str, revision: u64) -> (Option<&'static str>, bool) {
-    let mut has_form = false;
-    for line in FORMS.pieces('\n') {
-        let (of, line) = next_word(line);
-        let (revisions, length) = next_word(line);
-        if of == name {
-            has_form = true;
-            if is_chosen(revision, revisions) {
-                return (Some(length), true);
-            }
-        }
-    }
-    (None, has_form)
+    findings.tell(&HEADER_REFUSED, offset, printed(|out| out.value(&entry.status)));
 }
 
 /// Judges the letters, the length and the revision in the header of a table of a name. Returns whether the revision
 /// is known, or none of that name is.
 fn check_form(table: &[u8], name: &str, findings: &mut Findings) -> bool {
-    for (offset, end) in [(10usize, 16usize), (16, 24), (28, 32)].iter() {
-        if !is_printable(table.get(*offset..*end).unwrap_or(&[])) {
-            findings.add(&HEADER_LETTERS, *offset, &[]);
+    for (offset, end) in [(10, 16), (16, 24), (28, 32)] {
+        if !is_printable(&table[offset..end]) {
+            findings.add(&HEADER_LETTERS, offset, &[]);
         }
     }
     let revision = field(table, 8, 1);
-    match form_of(name, revision) {
-        (Some(length), _) => check_length(table, length, findings),
-        (None, true) => {
+    let mut forms = FORMS.iter().filter(|(of, ..)| *of == name).peekable();
+    let is_known = forms.peek().is_none();
+    match forms.find(|(_, revisions, _)| revisions.contains(&revision)) {
+        Some((.., lengths)) => check_length(table, lengths, findings),
+        None if is_known => {}
+        None => {
             findings.add(&HEADER_REVISION, 8, &[revision]);
             return false;
         }
-        _ => {}
     }
     true
 }
 
-/// Judges the length of a table, which is to be that of a form.
-fn check_length(table: &[u8], form: &str, findings: &mut Findings) {
-    let (length, revision) = (field(table, 4, 4), field(table, 8, 1));
-    let (least, _) = lengths_of(cut_at(form, '/').0);
-    if length < 36 {
-        return;
-    }
-    if length < least {
-        return findings.add(&HEADER_SHORT, 4, &[length, revision, least]);
-    }
-    let is_right = form.pieces('/').any(|part| has_length(length, part));
-    if !is_right {
-        let numbers = [length, revision];
-        findings.text.words("is %, and for revision % ", &numbers);
-        findings.text.text(form);
-        findings.end(&HEADER_LENGTH, 4);
-    }
-}
-
-/// The least length of a form's part, and the steps from that on, or 0.
-fn lengths_of(part: &str) -> (u64, u64) {
-    let (least, step) = cut_at(part, '+');
-    (number_of(least).unwrap_or(0), number_of(step).unwrap_or(0))
-}
-
-/// Whether a length is one of a form's part.
-fn has_length(length: u64, part: &str) -> bool {
-    let (least, step) = lengths_of(part);
-    match length.checked_sub(least) {
-        Some(over) if step > 0 => over % step == 0,
-        over => over == Some(0),
+/// Judges the length of a table, which is to be one of a form's.
+fn check_length(table: &[u8], lengths: &Lengths, findings: &mut Findings) {
+    let (length, revision, least) = (field(table, 4, 4), field(table, 8, 1), lengths.least());
+    if (36..least).contains(&length) {
+        findings.add(&HEADER_SHORT, 4, &[length, revision, least]);
+    } else if length >= 36 && !lengths.have(length) {
+        findings.tell(&HEADER_LENGTH, 4, format!("is {length}, and for revision {revision} {lengths}"));
     }
 }
 
 /// Whether letters are printable ASCII, but for zeros at the end.
 fn is_printable(letters: &[u8]) -> bool {
-    let mut has_ended = false;
-    for letter in letters {
-        if *letter == 0 {
-            has_ended = true;
-        } else if has_ended || !(0x20..0x7f).contains(letter) {
-            return false;
-        }
-    }
-    true
+    let end = letters.iter().rposition(|letter| *letter != 0).map_or(0, |last| last + 1);
+    letters[..end].iter().all(|letter| (0x20..0x7f).contains(letter))
 }
 
 /// What judges the fields of a table of a name by themselves.
@@ -265,8 +248,8 @@ struct Fields<'f> {
 impl Show for Fields<'_> {
     fn malformed(&mut self, offset: u64, fault: Fault) {
         if self.is_whole {
-            fault.print(offset, &mut self.findings.text);
-            self.findings.end(&TABLE_MALFORMED, size(offset));
+            let message = printed(|out| fault.print(offset, out));
+            self.findings.tell(&TABLE_MALFORMED, size(offset), message);
         }
     }
 

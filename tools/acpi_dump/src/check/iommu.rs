@@ -5,10 +5,10 @@ use crate::check::findings::Findings;
 use crate::check::pieces::Pieces;
 use crate::check::rules::{Rule, rules};
 use crate::check::spans::{Span, overlaps};
+use crate::prelude::*;
 use zacpi::base::bytes::skip;
 use zacpi::iommu::dmar::{DmarFields, DmarStructure, DmarStructureIter, Rmrr};
 use zacpi::iommu::ivrs::IvrsBlockIter;
-use zacpi::sdt::field;
 
 rules! {
     RMRR_PAGES = Error "rmrr-pages", "Intel VT-d 4.0, section 8.4",
@@ -113,7 +113,7 @@ pub(crate) fn check_ivrs(ivrs: &[u8], findings: &mut Findings) {
     let mut blocks = IvrsBlockIter::over(ivrs);
     while let Some(block) = blocks.next() {
         let mut entries = block.entries();
-        for _entry in entries.by_ref() {}
+        entries.by_ref().for_each(drop);
         let rest = entries.rest();
         let left = blocks.rest().len().saturating_add(rest.len());
         let offset = ivrs.len().saturating_sub(left);
@@ -131,14 +131,9 @@ pub(crate) fn check_iort(iort: &[u8], findings: &mut Findings) {
     for (offset, node) in Pieces::of(iort, start, (1, 2)) {
         let mut mapped = Vec::new();
         let (count, first) = (field(node, 8, 4) as usize, field(node, 12, 4) as usize); // ID mappings
-        let mut at = offset.saturating_add(first);
-        for mapping in skip(node, first).chunks(20).take(count) {
-            if mapping.len() == 20
-                && let Some(span) = ids_of(at, node, mapping, findings)
-            {
-                mapped.push(span);
-            }
-            at += 20;
+        let mappings = skip(node, first).chunks_exact(20).take(count);
+        for (mapping, at) in mappings.zip((offset + first..).step_by(20)) {
+            mapped.extend(ids_of(at, node, mapping, findings));
         }
         for (before, span) in overlaps(&mut mapped) {
             let numbers = &[span.first, before.offset as u64];

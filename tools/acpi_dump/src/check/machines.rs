@@ -6,7 +6,7 @@ use crate::check::machine::Machine;
 use crate::check::numbers::{Kept, Numbers};
 use crate::check::pieces::Pieces;
 use crate::check::rules::rules;
-use zacpi::sdt::{Signature, field};
+use crate::prelude::*;
 
 rules! {
     PPTT_OFFSET = Error "pptt-offset", "ACPI 6.5, section 5.2.30",

@@ -4,10 +4,10 @@ use crate::check::findings::Findings;
 use crate::check::numbers::{Kept, Numbers};
 use crate::check::pieces::Pieces;
 use crate::check::rules::{Rule, rules};
+use crate::prelude::*;
 use zacpi::base::bytes::skip;
 use zacpi::base::entries::split_front;
 use zacpi::madt::MADT_GRAMMAR;
-use zacpi::sdt::field;
 
 rules! {
     MADT_RESERVED_TYPE = Note "madt-reserved-type", "ACPI 6.5, section 5.2.12",
@@ -195,7 +195,7 @@ fn check_signal(offset: usize, entry: &[u8], findings: &mut Findings) {
         (_, 2) => "trigger mode 2 is reserved",
         _ => return,
     };
-    findings.add_words(&MADT_INTI_FLAGS, offset + place, words, &[]);
+    findings.tell(&MADT_INTI_FLAGS, offset + place, words.to_string());
 }
 
 /// Judges which interrupt controllers there are.

@@ -10,6 +10,7 @@ mod aml;
 mod devices;
 mod facs;
 mod fadt;
+mod field_rows;
 mod fields;
 mod findings;
 mod headers;
@@ -24,7 +25,7 @@ mod rows;
 pub mod rules;
 mod spans;
 
-use acpi_programs::input::entries::own_signature;
+use crate::prelude::*;
 use findings::Findings;
 pub use machine::Machine;
 use machine::table_of;

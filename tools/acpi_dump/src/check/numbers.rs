@@ -1,60 +1,54 @@
 //! Lists of numbers of a table, such as ids, with the offsets at which they are.
 
-use zacpi::sdt::field;
+use crate::prelude::*;
 
 /// Where the structures of a type have a number: the type, the list that the number goes to, its offset and its length,
 /// and the offset of the flags whose bit 0 is set if it counts, or 0.
 pub(crate) type Kept = (u64, u64, (usize, usize), usize);
 
 /// Lists of numbers: the list, the number, and its offset.
+#[derive(Default)]
 pub(crate) struct Numbers {
     pub(crate) all: Vec<(u64, u64, usize)>,
 }
 
 impl Numbers {
-    /// No numbers.
     pub(crate) fn new() -> Numbers {
-        Numbers { all: Vec::new() }
+        Numbers::default()
     }
 
-    /// Adds a number to a list.
     pub(crate) fn push(&mut self, list: u64, number: u64, offset: usize) {
         self.all.push((list, number, offset));
     }
 
     /// Adds what rows say that the structure at an offset has.
     pub(crate) fn add(&mut self, rows: &[Kept], offset: usize, bytes: &[u8]) {
-        for row in rows {
-            let (kind, list, (at, length), flags) = *row;
+        for &(kind, list, (at, length), flags) in rows {
             let counts = flags == 0 || field(bytes, flags, 4) & 1 != 0;
             if counts && field(bytes, 0, 1) == kind {
-                let number = field(bytes, at, length.min(8));
-                self.push(list, number, offset.saturating_add(at));
+                self.push(list, field(bytes, at, length), offset + at);
             }
         }
     }
 
-    /// Sorts each list, equal numbers by offset.
+    /// Sorts each list, equal numbers by offset. What follows takes sorted lists.
     pub(crate) fn sort(&mut self) {
-        self.all.sort();
+        self.all.sort_unstable();
     }
 
-    /// The place of the least number of a list that is no less than another one, or of what follows the list. The lists
-    /// are sorted.
+    /// The place of the least number of a list that is no less than another one, or of what follows the list.
     pub(crate) fn place(&self, list: u64, least: u64) -> usize {
         self.all.partition_point(|it| (it.0, it.1) < (list, least))
     }
 
-    /// The least number of a list that is no less than another one, and its offset. The lists are sorted.
+    /// The least number of a list that is no less than another one, and its offset.
     pub(crate) fn from(&self, list: u64, least: u64) -> Option<(u64, usize)> {
-        match self.all.get(self.place(list, least)) {
-            Some((of, number, offset)) if *of == list => Some((*number, *offset)),
-            _ => None,
-        }
+        let (of, number, offset) = *self.all.get(self.place(list, least))?;
+        (of == list).then_some((number, offset))
     }
 
-    /// Whether a number is in a list. The lists are sorted.
+    /// Whether a number is in a list.
     pub(crate) fn has(&self, list: u64, number: u64) -> bool {
-        matches!(self.from(list, number), Some((found, _)) if found == number)
+        self.from(list, number).is_some_and(|(found, _)| found == number)
     }
 }

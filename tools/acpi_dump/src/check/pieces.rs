@@ -1,8 +1,7 @@
 //! The pieces of a table, one after the other, each of which has its length.
 
-use acpi_programs::walk::language::size;
+use crate::prelude::*;
 use zacpi::base::bytes::skip;
-use zacpi::sdt::field;
 
 /// Where a piece has its length: at an offset, in this many bytes.
 pub(crate) type LengthPlace = (usize, usize);
@@ -27,7 +26,7 @@ impl<'a> Iterator for Pieces<'a> {
 
     fn next(&mut self) -> Option<(usize, &'a [u8])> {
         let (at, width) = self.place;
-        let length = size(field(self.rest, at, width.min(8)));
+        let length = size(field(self.rest, at, width));
         if length <= at || self.rest.len() < length {
             return None;
         }

@@ -5,9 +5,8 @@ use crate::check::machine::Machine;
 use crate::check::numbers::Numbers;
 use crate::check::rules::rules;
 use crate::check::spans::{Span, overlaps};
-use acpi_programs::input::entries::own_signature;
+use crate::prelude::*;
 use acpi_programs::input::status::Status;
-use zacpi::sdt::{Signature, field};
 
 rules! {
     ROOT_NULL_POINTER = Warning "root-null-pointer", "ACPI 6.5, section 5.2.8",
@@ -85,12 +84,8 @@ pub(crate) fn check_roots(machine: &Machine<'_>, findings: &mut Findings) {
 
 /// Adds the pointers of a root table, each of `width` bytes, to a list.
 fn add_pointers(list: u64, table: &[u8], width: usize, pointers: &mut Numbers) {
-    let mut offset = 36usize;
-    for pointer in table.get(36..).unwrap_or(&[]).chunks(width.max(1)) {
-        if pointer.len() == width {
-            pointers.push(list, field(pointer, 0, width.min(8)), offset);
-        }
-        offset += width;
+    for (pointer, offset) in table.get(36..).unwrap_or(&[]).chunks_exact(width).zip((36..).step_by(width)) {
+        pointers.push(list, number_of(pointer), offset);
     }
 }
 
@@ -105,12 +100,10 @@ fn check_pointers(has_beside: bool, pointers: &mut Numbers, findings: &mut Findi
             }
         } else if list == BESIDE {
             if !pointers.has(LISTED, address) {
-                let words = "the RSDT lists # as well";
-                findings.add_words(&ROOT_LISTS_DIFFER, 4, words, &[address]);
+                findings.tell(&ROOT_LISTS_DIFFER, 4, format!("the RSDT lists {address:#x} as well"));
             }
         } else if has_beside && address < 1 << 32 && !pointers.has(BESIDE, address) {
-            let words = "the RSDT doesn't list #";
-            findings.add_words(&ROOT_LISTS_DIFFER, *offset, words, &[address]);
+            findings.tell(&ROOT_LISTS_DIFFER, *offset, format!("the RSDT doesn't list {address:#x}"));
         }
     }
 }
@@ -120,11 +113,10 @@ fn check_revision(machine: &Machine<'_>, findings: &mut Findings) {
     let fadt = machine.first(Signature::FADT).map_or(0, |(_, fadt)| field(fadt, 8, 1));
     let rsdp = field(machine.rsdp, 15, 1);
     if rsdp >= 2 {
-        let words = "the RSDP has revision %, and so an XSDT";
-        findings.add_words(&ROOT_RSDT_IN_USE, 0, words, &[rsdp]);
+        findings.tell(&ROOT_RSDT_IN_USE, 0, format!("the RSDP has revision {rsdp}, and so an XSDT"));
     } else if fadt >= 3 {
-        let words = "the FADT has revision %, as machines with an XSDT have it";
-        findings.add_words(&ROOT_RSDT_IN_USE, 0, words, &[fadt]);
+        let message = format!("the FADT has revision {fadt}, as machines with an XSDT have it");
+        findings.tell(&ROOT_RSDT_IN_USE, 0, message);
     }
 }
 
@@ -134,20 +126,13 @@ fn check_listed(machine: &Machine<'_>, findings: &mut Findings) {
     if machine.rsdp.is_empty() && machine.entries.len() < 4 {
         return;
     }
-    let (mut has_fadt, mut has_madt) = (false, false);
-    for entry in machine.entries {
-        if entry.bytes.is_empty() {
-            return;
+    if machine.entries.iter().any(|entry| entry.bytes.is_empty()) {
+        return;
+    }
+    for (signature, rule) in [(Signature::FADT, &ROOT_NO_FADT), (Signature::MADT, &ROOT_NO_MADT)] {
+        if !machine.entries.iter().any(|entry| own_signature(entry.bytes) == signature) {
+            findings.add(rule, 4, &[]);
         }
-        let signature = own_signature(entry.bytes);
-        has_fadt |= signature == Signature::FADT;
-        has_madt |= signature == Signature::MADT;
-    }
-    if !has_fadt {
-        findings.add(&ROOT_NO_FADT, 4, &[]);
-    }
-    if !has_madt {
-        findings.add(&ROOT_NO_MADT, 4, &[]);
     }
 }
 
@@ -181,11 +166,10 @@ fn check_overlap(machine: &Machine<'_>, findings: &mut Findings) {
             continue;
         }
         if let Some(more) = entry.bytes.len().checked_sub(1) {
-            let span = Span::of(address, more as u64, index, 0);
-            spans.push(span);
+            spans.push(Span::of(address, more as u64, index, 0));
         } else if !matches!(entry.status, Status::NotHere) {
             findings.table = index;
-            findings.add_value(&ROOT_NOTHING_THERE, 0, &entry.status);
+            findings.tell(&ROOT_NOTHING_THERE, 0, printed(|out| out.value(&entry.status)));
         }
     }
     for (before, span) in overlaps(&mut spans) {

@@ -1,208 +1,164 @@
-//! Rules of one field each, as rows of `fields.rt` that name it: its offset and its length are the layout's.
-//!
-//! A row is below the line `= SIGNATURE` of its table, or `= SIGNATURE PLACE RANGE` if it counts only where the number
-//! at a place of the table is in a range. It is `FIELD | STRUCTURE | RULE TEST`, with the structure's title, `-` for
-//! the table itself, or `*` for every structure; after TEST there may be the PLACE of the number in the field. A place
-//! is `OFFSET:LENGTH`; a range is `FIRST-LAST`, a number, or `!NUMBER` for all numbers without these bits. TEST is
-//!
-//! - a range, or several with commas between them, if the number has to be in one,
-//! - `named`, if the field has to be a code or flags that the layout names,
-//! - `once`, if no two structures have the number in this field,
-//! - `of`, if it has to be the offset of a structure with a title that comes next (`| TITLE`), or a number that one has
-//!   in a field (`| TITLE > FIELD`). `of/NUMBER` lets that number be without one.
-//!
-//! Of a field's rows with a range or `named`, the first one that isn't met is found.
-//! `scripts/check/rules` finds a row whose rule, structure or field isn't there.
+//! Rules of one field each, as rows that name it: its offset and its length are the layout's. Of a field's rows the first
+//! one whose test the number alone doesn't pass is found. `scripts/check/rules` finds a row whose structure or field
+//! isn't there.
 
-use crate::check::fields::ROWS;
-use crate::check::findings::Findings;
-use crate::check::numbers::Numbers;
-use crate::check::rules::{Rule, rule_of};
-use acpi_programs::input::entries::own_signature;
-use acpi_programs::rattle::Pieces;
-use acpi_programs::walk::fields::{number_of as number_in, unnamed_in};
-use acpi_programs::walk::language::{cut_at, is_chosen, next_word, number_at, number_of, size};
-use acpi_programs::walk::walk::{Field, Group, Show, walk_table};
+use super::field_rows::ROWS;
+use super::findings::Findings;
+use super::numbers::Numbers;
+use super::rules::Rule;
+use crate::prelude::*;
+use acpi_programs::walk::fields::unnamed_in;
+use std::ops::RangeInclusive;
 
-/// How many structures that are one in another have titles here, with the table, which is the outermost.
-const DEPTH: usize = 17;
+/// The title of the table itself, in place of a structure's.
+pub(super) const TABLE: &str = "-";
 
-/// A row.
-#[derive(Clone, Copy)]
-struct Row {
-    field: &'static str,
-    structure: &'static str,
+/// What stands for the titles of all structures.
+pub(super) const ANY: &str = "*";
+
+/// What a number has to be.
+pub(super) enum Test {
+    In(&'static [RangeInclusive<u64>]),
+    /// Without these bits.
+    Without(u64),
+    /// A code or flags that the layout names.
+    Named,
+    /// No two structures have the number in this field.
+    Once,
+    /// The offset of a structure of one of these titles, or a number that one has in a field, if that has a name. The
+    /// first number may be without one.
+    Of(Option<u64>, &'static [(&'static str, &'static str)]),
+}
+
+impl Test {
+    /// Whether a number passes it, which is judged by itself.
+    fn passes(&self, number: u64) -> bool {
+        match self {
+            Test::In(ranges) => ranges.iter().any(|range| range.contains(&number)),
+            Test::Without(bits) => number & bits == 0,
+            Test::Named | Test::Once | Test::Of(..) => true,
+        }
+    }
+}
+
+/// A test of the number at an offset of a table, of a length.
+pub(super) type When = (usize, usize, Test);
+
+/// A test of a field of structures with a title.
+pub(super) struct Row {
     rule: &'static Rule,
-    test: &'static str,
-    /// The number that is right anyway, or no letters.
-    exempt: &'static str,
-    place: &'static str,
-    targets: &'static str,
+    structure: &'static str,
+    field: &'static str,
+    test: Test,
+    /// The offset and the length of the number in the field, if that isn't all of it.
+    part: Option<(usize, usize)>,
 }
 
 impl Row {
-    /// The row that a line is.
-    fn read(line: &'static str) -> Row {
-        let (field, line) = cut_at(line, '|');
-        let (structure, line) = cut_at(line, '|');
-        let (wanted, targets) = cut_at(line, '|');
-        let (rule, wanted) = next_word(wanted);
-        let (test, place) = next_word(wanted);
-        let (test, exempt) = cut_at(test, '/');
-        Row {
-            field: field.trim_ascii(),
-            structure: structure.trim_ascii(),
-            rule: rule_of(rule).expect("a row names a rule"),
-            test: test.trim_ascii(),
-            exempt: exempt.trim_ascii(),
-            place: place.trim_ascii(),
-            targets,
-        }
+    pub(super) const fn of(rule: &'static Rule, structure: &'static str, field: &'static str, test: Test) -> Row {
+        Row { rule, structure, field, test, part: None }
     }
 
-    /// Where its number begins in the field.
-    fn start(&self) -> usize {
-        size(number_of(cut_at(self.place, ':').0).unwrap_or(0))
+    pub(super) const fn part(mut self, offset: usize, length: usize) -> Row {
+        self.part = Some((offset, length));
+        self
+    }
+
+    /// The number in a field.
+    fn number_in(&self, bytes: &[u8]) -> u64 {
+        self.part.map_or_else(|| number_of(bytes), |(offset, length)| number_at(bytes, offset, length))
     }
 
     /// Whether it is about a field of a structure with a title.
     fn is_about(&self, title: &str, field: &str) -> bool {
-        self.field == field && (self.structure == title || self.structure == "*" && title != "-")
+        self.field == field && (self.structure == title || self.structure == ANY && title != TABLE)
     }
 
     /// Whether its number may be that of a field of a structure with a title, or the offset of the structure if the
     /// field's name has no letters.
     fn is_of(&self, title: &str, field: &str) -> bool {
-        self.test == "of"
-            && self.targets.pieces('|').any(|target| {
-                let (structure, of) = cut_at(target, '>');
-                let structure = structure.trim_ascii();
-                of.trim_ascii() == field && (structure == title || structure == "*")
-            })
+        let is_it = |target: &(&str, &str)| target.1 == field && (target.0 == title || target.0 == ANY);
+        matches!(self.test, Test::Of(_, targets) if targets.iter().any(is_it))
     }
-}
-
-/// The number at a place of bytes, or all of them as one number if no place is named.
-fn number_from(bytes: &[u8], place: &str) -> u64 {
-    let (offset, length) = cut_at(place, ':');
-    match (number_of(offset), number_of(length)) {
-        (Some(offset), Some(length)) => number_at(bytes, size(offset), size(length)),
-        _ => number_in(bytes),
-    }
-}
-
-/// Whether a number is in one of the ranges of a test.
-fn meets(number: u64, test: &str) -> bool {
-    test.pieces(',').any(|range| is_chosen(number, range))
 }
 
 /// The judgement of a table by its rows, as a walk comes to its fields.
 struct Judged<'f> {
     findings: &'f mut Findings,
-    rows: &'f [Row],
+    rows: &'static [Row],
     /// The titles of the structures that the walk is in, the outermost first, which is the table.
-    titles: [&'static str; DEPTH],
-    depth: usize,
+    titles: Vec<&'static str>,
     /// For each row the numbers that aren't judged alone, at twice its number, and those that they may be, at one more.
     numbers: Numbers,
 }
 
-impl Judged<'_> {
-    /// The title of the structure that the walk is in.
-    fn title(&self) -> &'static str {
-        self.titles.get(self.depth).copied().unwrap_or("")
-    }
-}
-
 impl Show for Judged<'_> {
     fn begin(&mut self, group: &Group) {
-        let depth = self.depth.saturating_add(1);
-        if let Some(title) = self.titles.get_mut(depth) {
-            *title = group.name;
-        }
-        self.depth = depth;
-        let (rows, mut list) = (self.rows, 1u64);
-        for row in rows {
+        self.titles.push(group.name);
+        for (row, list) in self.rows.iter().zip((1..).step_by(2)) {
             if row.is_of(group.name, "") {
                 self.numbers.push(list, group.offset, size(group.offset));
             }
-            list += 2;
         }
     }
 
     fn end(&mut self) {
-        self.depth = self.depth.saturating_sub(1);
+        self.titles.pop();
     }
 
     fn field(&mut self, shown: &Field<'_>) {
-        let (title, offset) = (self.title(), size(shown.offset));
-        let (rows, mut list) = (self.rows, 0u64);
-        for row in rows {
-            let number = number_from(shown.bytes, row.place);
+        let (title, offset) = (self.titles.last().copied().unwrap_or(""), size(shown.offset));
+        for (row, list) in self.rows.iter().zip((0..).step_by(2)) {
             if row.is_of(title, shown.label.name) {
-                self.numbers.push(list + 1, number, offset);
+                self.numbers.push(list + 1, row.number_in(shown.bytes), offset);
             }
-            if row.is_about(title, shown.label.name) {
-                let wrong = match row.test {
-                    "once" | "of" => {
-                        self.numbers.push(list, number, offset);
-                        None
-                    }
-                    "named" => unnamed_in(shown),
-                    _ if meets(number, row.test) => None,
-                    _ => Some(number),
-                };
-                if let Some(number) = wrong {
-                    let at = offset.saturating_add(row.start());
-                    return self.findings.add(row.rule, at, &[number]);
-                }
+            if !row.is_about(title, shown.label.name) {
+                continue;
             }
-            list += 2;
+            let number = row.number_in(shown.bytes);
+            let wrong = match row.test {
+                Test::Named => unnamed_in(shown),
+                _ => (!row.test.passes(number)).then_some(number),
+            };
+            if let Some(number) = wrong {
+                let start = row.part.map_or(0, |(offset, _)| offset);
+                return self.findings.add(row.rule, offset + start, &[number]);
+            }
+            if matches!(row.test, Test::Once | Test::Of(..)) {
+                self.numbers.push(list, number, offset);
+            }
         }
     }
 }
 
-/// Judges the numbers of a table that aren't judged alone. The lists are sorted.
-fn judge_numbers(rows: &[Row], numbers: &Numbers, findings: &mut Findings) {
-    let mut before = (u64::MAX, 0u64, 0usize);
-    for (list, number, offset) in numbers.all.iter() {
-        let (list, number, offset) = (*list, *number, *offset);
-        let Some(row) = rows.get(size(list / 2)) else {
-            break;
+/// Judges the numbers of a table that aren't judged alone.
+fn judge_numbers(rows: &[Row], mut numbers: Numbers, findings: &mut Findings) {
+    numbers.sort();
+    let mut before = (u64::MAX, 0, 0);
+    for (list, number, offset) in numbers.all.iter().copied() {
+        let row = &rows[size(list / 2)];
+        let is_wrong = match row.test {
+            Test::Of(exempt, _) => list % 2 == 0 && !numbers.has(list + 1, number) && exempt != Some(number),
+            _ => (before.0, before.1) == (list, number),
         };
-        let is_wrong = if row.test == "once" {
-            before.0 == list && before.1 == number
-        } else {
-            list % 2 == 0 && !numbers.has(list + 1, number)
-        };
-        if is_wrong && number_of(row.exempt) != Some(number) {
+        if is_wrong {
             findings.add(row.rule, offset, &[number, before.2 as u64]);
         }
         before = (list, number, offset);
     }
 }
 
-/// Judges a table by the rows that lines are.
-fn check_lines(table: &[u8], lines: &'static str, findings: &mut Findings) {
-    let numbers = Numbers::new();
-    let rows: Vec<_> = lines.pieces('\n').filter(|line| !line.is_empty()).map(Row::read).collect();
-    let mut judged = Judged { findings, rows: &rows, titles: ["-"; DEPTH], depth: 0, numbers };
-    walk_table(own_signature(table), table, &mut judged);
-    let Judged { findings, mut numbers, .. } = judged;
-    numbers.sort();
-    judge_numbers(&rows, &numbers, findings);
-}
-
 /// Judges a table by the rows of its signature.
-pub(crate) fn check_rows(table: &[u8], findings: &mut Findings) {
-    for block in ROWS.pieces('=').skip(1) {
-        let (head, lines) = cut_at(block, '\n');
-        let (name, head) = next_word(head);
-        let (place, range) = next_word(head);
-        if own_signature(name.as_bytes()) == own_signature(table)
-            && (place.is_empty() || is_chosen(number_from(table, place), range.trim_ascii()))
-        {
-            check_lines(table, lines, findings);
+pub(super) fn check_rows(table: &[u8], findings: &mut Findings) {
+    let signature = own_signature(table);
+    for (name, when, rows) in ROWS {
+        let counts = |(offset, length, test): &When| test.passes(number_at(table, *offset, *length));
+        if signature.as_str() == Some(name) && when.as_ref().is_none_or(counts) {
+            let titles = vec![TABLE];
+            let mut judged = Judged { findings, rows, titles, numbers: Numbers::new() };
+            walk_table(signature, table, &mut judged);
+            let Judged { findings, numbers, .. } = judged;
+            judge_numbers(rows, numbers, findings);
         }
     }
 }

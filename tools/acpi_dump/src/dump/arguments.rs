@@ -7,6 +7,7 @@ use clap::{Arg, ArgAction, Command, CommandFactory, FromArgMatches, Parser};
 /// Shows ACPI tables
 #[derive(Parser, Default)]
 #[command(name = "acpi_dump", version, after_help = AFTER, no_binary_name = true)]
+#[group(skip)]
 #[command(disable_help_flag = true, disable_version_flag = true)]
 pub(crate) struct Arguments {
     /// Files of tables, a folder of them, acpidump's or acpiview's text, an image of acpi_pack, raw memory, or - for

@@ -1,9 +1,9 @@
 //! What a FADT's getters return, which take several fields together.
 
-use acpi_programs::walk::out::Out;
+use crate::prelude::*;
+use zacpi::AcpiResult;
 use zacpi::address::GenericAddress;
 use zacpi::fadt::Fadt;
-use zacpi::{AcpiResult, PhysicalRecord};
 
 /// Prints what the getters return, if the table is as long as a FADT.
 pub(crate) fn print_getters(table: &[u8], out: &mut Out) {

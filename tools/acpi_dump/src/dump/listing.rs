@@ -1,11 +1,8 @@
 //! One line a table.
 
 use crate::dump::paint::Paint;
-use acpi_programs::input::entries::{Entry, Place, header_of};
-use acpi_programs::walk::fields::print_text;
-use acpi_programs::walk::out::Out;
-use zacpi::PhysicalRecord;
-use zacpi::sdt::{SdtHeader, Signature, field};
+use crate::prelude::*;
+use acpi_programs::input::entries::header_of;
 
 /// The name of a file without the folders before it.
 fn last_part(path: &str) -> &str {

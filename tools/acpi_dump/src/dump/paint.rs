@@ -1,7 +1,7 @@
 //! Colors, if the output is to have them.
 
+use crate::prelude::*;
 use acpi_programs::input::status::Status;
-use acpi_programs::walk::out::Out;
 use core::fmt::Display;
 
 /// Whether colors are printed.

@@ -3,8 +3,7 @@
 use super::machines::Machine;
 use super::sums::Sums;
 use crate::compare::{Difference, ShowDifferences, compare, same_in};
-use crate::text::printed;
-use acpi_programs::input::entries::Entry;
+use crate::prelude::*;
 
 /// A difference: the table, what is in it, and its values in the base and in the other machine. A table or a structure
 /// that one of them alone has is without values but that it is there.

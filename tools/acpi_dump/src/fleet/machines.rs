@@ -1,17 +1,17 @@
 //! The machines of a fleet: where they are, and their tables.
 
 use super::sources::Unpacked;
+use crate::prelude::*;
 use acpi_programs::cli::root::Root;
 use acpi_programs::image_reader::MemoryImage;
 use acpi_programs::input::candidates::{candidates, ebda_of, starts};
-use acpi_programs::input::entries::{Entry, Place, bytes_from, entries_of, entries_of_files};
-use acpi_programs::input::errors::{Log, Stop};
+use acpi_programs::input::entries::{bytes_from, entries_of, entries_of_files};
 use acpi_programs::input::gather::{Input, gather};
 use acpi_programs::input::read::Reading;
 use acpi_programs::input::sources::HostSources;
 use acpi_programs::input::status::Status;
 use acpi_programs::input::tables::TableFile;
-use acpi_programs::rattle::alloc::{AllocError, Global};
+use acpi_programs::rattle::alloc::AllocError;
 use acpi_programs::rattle::{HostRuntime, Vec as Entries};
 use std::fs::{File, read_dir};
 use std::io::Read;

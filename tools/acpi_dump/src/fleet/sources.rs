@@ -1,7 +1,7 @@
 //! Files that may be compressed.
 
+use crate::prelude::*;
 use acpi_programs::input::sources::{HostSources, Kind, Listing, Sources};
-use acpi_programs::rattle::alloc::Global;
 use acpi_programs::rattle::{ReadToEndIn, Vec as Bytes};
 use std::io::{Error, ErrorKind, Read, Result};
 

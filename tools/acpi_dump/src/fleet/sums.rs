@@ -1,9 +1,7 @@
 //! Sums of tables, by which equal ones are known.
 
 use super::machines::Machine;
-use acpi_programs::input::entries::{Entry, own_signature};
-use acpi_programs::walk::fault::Fault;
-use acpi_programs::walk::walk::{Field, Group, Show, walk_table};
+use crate::prelude::*;
 use std::collections::HashMap;
 use std::collections::hash_map::DefaultHasher;
 use std::hash::Hasher;

@@ -4,13 +4,10 @@ use super::escape::Html;
 use super::sheet::Sheet;
 use crate::compare::code::segments_of;
 use crate::compare::outline::Item;
-use crate::text::{granted, printed};
+use crate::prelude::*;
 use acpi_programs::code::text::CodeText;
 use acpi_programs::code::{Extent, list_code};
 use acpi_programs::rattle::Pieces;
-use acpi_programs::rattle::alloc::Global;
-use acpi_programs::walk::language::size;
-use acpi_programs::walk::out::Out;
 
 /// What is before the operations, and after them.
 const BEGIN: &str = "<tr class=\"code\"><td><td colspan=\"3\"><details><summary>operations</summary><pre>\n";

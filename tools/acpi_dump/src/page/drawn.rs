@@ -4,8 +4,8 @@ use super::escape::Html;
 use super::escape::Piece::{Decimal, Text, Words};
 use super::sheet::Sheet;
 use crate::compare::outline::{Item, Part};
+use crate::prelude::*;
 use acpi_programs::rattle::Pieces;
-use acpi_programs::walk::fields::{number_of, size_of};
 use acpi_programs::walk::language::cut_at;
 
 /// The structures that are drawn. The first line counts that begins with the letters of the table and then with the

@@ -2,10 +2,10 @@
 
 use super::ids::Id;
 use crate::compare::outline::Item;
+use crate::prelude::*;
 use acpi_programs::input::status::Status;
 use std::borrow::Cow;
 use std::fmt::Write;
-use zacpi::sdt::Signature;
 
 /// How many digits of a value are shown.
 const DIGITS: usize = 26;

@@ -1,8 +1,7 @@
 //! The ids by which the parts of a page are linked.
 
-use acpi_programs::input::entries::{Entry, own_signature};
+use crate::prelude::*;
 use std::fmt::{self, Display, Formatter};
-use zacpi::sdt::Signature;
 
 /// The id of a table: the letters of its signature, and its number from 1 on among the tables of the same letters. The
 /// ids of what isn't a table's aren't four letters long.

@@ -4,7 +4,8 @@ use super::escape::Html;
 use super::escape::Piece;
 use super::escape::Piece::{Bytes, Decimal, Hex, Id, Letters, Markup, Text};
 use super::sheet::{Sheet, Standing};
-use acpi_programs::input::entries::{Place, header_of};
+use crate::prelude::*;
+use acpi_programs::input::entries::header_of;
 use acpi_programs::input::status::Status;
 use acpi_programs::walk::layouts::title_of;
 

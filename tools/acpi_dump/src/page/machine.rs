@@ -8,11 +8,11 @@ use super::matrices::print_matrices;
 use super::sheet::{Sheet, classes_of};
 use super::tile::Tile;
 use super::values::print_digest;
-use acpi_programs::walk::language::{next_word, number_at, number_of, size};
+use crate::prelude::*;
+use acpi_programs::walk::language::{next_word, number_of};
 use acpi_programs::walk::share::share_of;
 use zacpi::base::model::IsaOverrides;
 use zacpi::platform::interrupt::{InterruptSourceOverride, Polarity, TriggerMode};
-use zacpi::sdt::field;
 
 /// What the tiles of each kind are called.
 const TITLES: [&str; 6] = ["Domain", "Processors", "I/O APIC {I/O APIC ID}", "PCI segments", "{}", "GIC"];

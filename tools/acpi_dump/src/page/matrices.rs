@@ -4,7 +4,7 @@ use super::escape::Html;
 use super::escape::Piece::{Decimal, Printed, Text};
 use super::sheet::{Sheet, classes_of};
 use super::tile::Tile;
-use acpi_programs::walk::language::size;
+use crate::prelude::*;
 use acpi_programs::walk::matrix::{Matrix, matrix_of};
 
 /// How many rows and columns of a matrix are drawn at most.

@@ -10,9 +10,8 @@ use super::marks::{Change, Mark};
 use super::sheet::{Sheet, Standing};
 use super::values::{print_change, print_digest, print_reference, print_value, structure_of};
 use crate::compare::outline::{BYTES, Item, MALFORMED, Part};
+use crate::prelude::*;
 use acpi_programs::input::entries::header_of;
-use acpi_programs::walk::language::{number_at, size};
-use zacpi::sdt::SdtHeader;
 
 /// From how many structures of one name in a row on they are in a fold.
 const MANY: usize = 9;

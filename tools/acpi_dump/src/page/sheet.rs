@@ -5,9 +5,7 @@ use super::ids::Id;
 use super::marks::{Change, Mark, Marks};
 use crate::check::rules::Finding;
 use crate::compare::outline::{Item, Side};
-use acpi_programs::code::Known as Names;
-use acpi_programs::input::entries::Entry;
-use zacpi::sdt::Signature;
+use crate::prelude::*;
 
 /// Whether a table is also in the other one of two inputs.
 #[derive(Clone, Copy)]

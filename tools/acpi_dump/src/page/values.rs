@@ -5,9 +5,9 @@ use super::escape::Piece::{Hex, Id, Name, Text, Value, Words};
 use super::escape::{Piece, word_if};
 use super::ids;
 use crate::compare::outline::{BYTES, Item, MALFORMED, Part, Side};
+use crate::prelude::*;
 use acpi_programs::rattle::Pieces;
-use acpi_programs::walk::language::{next_word, number_at, size};
-use zacpi::sdt::Signature;
+use acpi_programs::walk::language::next_word;
 
 /// From how many letters on a meaning is in a box of a few lines.
 const LONG: usize = 240;

@@ -93,7 +93,9 @@ fn add_model(
     }
     match model {
         InterruptModel::Apic(apic) => add_apic(facts, apic),
-        _ => drop(facts.one("").text("interrupts\tnot described by local APICs")),
+        _ => {
+            facts.one("").text("interrupts\tnot described by local APICs");
+        }
     }
 }
 
@@ -185,7 +187,10 @@ fn add_hpet(facts: &mut Facts, info: &HpetInfo) {
 /// Adds the serial console.
 fn add_console(facts: &mut Facts, console: &Spcr) {
     let base = match console.base_address() {
-        None => return drop(facts.one("console").text("console\toff").member("on", Fact::Flag(false))),
+        None => {
+            facts.one("console").text("console\toff").member("on", Fact::Flag(false));
+            return;
+        }
         Some(Err(refusal)) => return facts.refused("console", refusal),
         Some(Ok(base)) => base,
     };

@@ -4,15 +4,13 @@
 use super::devices::{Id, has_id, integer_of};
 use super::names::{Named, Names};
 use super::resources::template_of;
-use super::{AML_MCFG_RESERVED, AML_WINDOWS};
+use super::{AML_MCFG_RESERVED, AML_WINDOWS, path_text};
 use crate::check::findings::Findings;
 use crate::check::machine::Machine;
 use crate::check::spans::{Span, overlaps};
+use crate::prelude::*;
 use acpi_programs::walk::aml::resources::{Descriptors, space_of};
-use acpi_programs::walk::fields::print_path;
-use acpi_programs::walk::language::size;
 use zacpi::mcfg::McfgEntryIter;
-use zacpi::sdt::{Signature, field};
 
 /// Host bridges of PCI and PCI Express (section 5.6.7).
 const BRIDGES: [Id; 2] = [(0x030A_D041, b"PNP0A03"), (0x080A_D041, b"PNP0A08")];
@@ -39,8 +37,7 @@ fn add_spans(spans: &mut Vec<Span>, space: u64, names: &Names<'_>, it: &Named<'_
             first = first.saturating_add(segment.saturating_mul(256));
         }
         if of == space && count > 0 {
-            let span = Span::of(first, count - 1, at + offset, owner as u64);
-            spans.push(span);
+            spans.push(Span::of(first, count - 1, at + offset, owner as u64));
         }
     }
 }
@@ -80,16 +77,14 @@ pub(super) fn check_regions(machine: &Machine<'_>, names: &Names<'_>, findings: 
     }
     spans.sort_by_key(|it| (it.first, it.offset));
     let wholes = wholes_of(&spans);
-    let mut offset = 44usize;
     findings.table = index;
-    for region in McfgEntryIter::over(mcfg) {
+    for (region, offset) in McfgEntryIter::over(mcfg).zip((44..).step_by(16)) {
         let (first, last) = (region.bus_number_start as u64, region.bus_number_end as u64);
         let start = region.base_address.saturating_add(first << 20);
         let end = region.base_address.saturating_add(last << 20 | 0xfffff);
         if start <= end && !is_within(&wholes, start, end) {
             findings.add(&AML_MCFG_RESERVED, offset, &[start, end]);
         }
-        offset += 16;
     }
 }
 
@@ -126,11 +121,9 @@ pub(super) fn check_windows(names: &Names<'_>, findings: &mut Findings) {
                 && before.owner != span.owner
             {
                 findings.table = it.table;
-                let numbers = [span.first];
-                findings.text.text(what);
-                findings.text.words(" from # on are also those of ", &numbers);
-                print_path(names.scope_path(other), &mut findings.text);
-                findings.end(&AML_WINDOWS, span.offset);
+                let other = path_text(names.scope_path(other));
+                let message = format!("{what} from {:#x} on are also those of {other}", span.first);
+                findings.tell(&AML_WINDOWS, span.offset, message);
             }
         }
     }

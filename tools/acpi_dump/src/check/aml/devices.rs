@@ -1,15 +1,14 @@
 //! Devices, processors and events (ACPI 6.5, sections 5.2.12, 5.6.4.1 and 6.1.12).
 
-use super::names::{Names, ROOT};
+use super::names::{Named, Names, ROOT};
 use super::values::text_in;
-use super::{AML_GPE_NOWHERE, AML_GPE_TWICE, AML_NO_PROCESSOR, AML_UID_TWICE};
+use super::{AML_GPE_NOWHERE, AML_GPE_TWICE, AML_NO_PROCESSOR, AML_UID_TWICE, elements_in, path_text};
 use crate::check::findings::Findings;
 use crate::check::machine::Machine;
 use crate::check::numbers::{Kept, Numbers};
 use crate::check::pieces::Pieces;
-use acpi_programs::walk::aml::constant::{elements_of, integer_in, next_element};
-use acpi_programs::walk::fields::print_path;
-use zacpi::sdt::{Signature, field};
+use crate::prelude::*;
+use acpi_programs::walk::aml::constant::integer_in;
 
 /// An id: as an integer, and as a text.
 pub(super) type Id = (u64, &'static [u8]);
@@ -22,28 +21,12 @@ fn is_one(data: &[u8], ids: &[Id]) -> bool {
 
 /// Whether the device whose path has a number has one of ids.
 pub(super) fn has_id(names: &Names<'_>, device: u64, ids: &[Id]) -> bool {
-    if let Some(id) = names.find_in(device, b"_HID")
-        && is_one(id.data, ids)
-    {
-        return true;
-    }
-    let Some(id) = names.find_in(device, b"_CID") else {
-        return false;
+    let has = |id: Named<'_>| match elements_in(id.data) {
+        Some(mut elements) => elements.any(|(element, _)| is_one(element, ids)),
+        None => is_one(id.data, ids),
     };
-    let Some((_, elements)) = elements_of(id.data) else {
-        return is_one(id.data, ids);
-    };
-    let mut rest = elements;
-    for _ in 0..elements.len() {
-        let Some((element, others)) = next_element(rest) else {
-            return false;
-        };
-        if is_one(element, ids) {
-            return true;
-        }
-        rest = others;
-    }
-    false
+    names.find_in(device, b"_HID").is_some_and(|id| is_one(id.data, ids))
+        || names.find_in(device, b"_CID").is_some_and(has)
 }
 
 /// The integer that a name in the object whose path has a number is set to.
@@ -51,59 +34,35 @@ pub(super) fn integer_of(names: &Names<'_>, scope: u64, name: &[u8]) -> Option<u
     integer_in(names.find_in(scope, name)?.data)
 }
 
-/// What an id or a _UID is: an integer by its value, and else its bytes.
-fn value_of(data: &[u8]) -> (Option<u64>, &[u8]) {
-    match integer_in(data) {
-        Some(number) => (Some(number), &[]),
-        None => (None, data),
-    }
-}
-
 /// Finds devices that have the _HID and the _UID of another one before them. One that is never there doesn't count.
 pub(super) fn check_ids(names: &Names<'_>, findings: &mut Findings) {
+    // An integer by its value, and else its bytes.
+    let value = |data| integer_in(data).map_or((None, data), |number| (Some(number), &[][..]));
     let mut found = Vec::new();
     for (number, it) in names.all.iter().enumerate() {
         if it.kind == "Name"
             && matches!(names.name(it), b"_UID")
             && let Some(id) = names.find_in(it.scope, b"_HID")
             && id.kind == "Name"
-            && !matches!(integer_of(names, it.scope, b"_STA"), Some(status) if status & 1 == 0)
+            && integer_of(names, it.scope, b"_STA").is_none_or(|status| status & 1 != 0)
         {
-            let device = (value_of(id.data), value_of(it.data), number);
-            found.push(device);
+            found.push((value(id.data), value(it.data), number));
         }
     }
-    found.sort_by_key(|it| *it);
+    found.sort_unstable();
     for pair in found.windows(2) {
-        if let [one, next] = pair
-            && one.0 == next.0
-            && one.1 == next.1
-        {
-            tell_unique(names, next.2, one.2, findings);
+        let (other, it) = (&names.all[pair[0].2], &names.all[pair[1].2]);
+        if (pair[0].0, pair[0].1) == (pair[1].0, pair[1].1) && it.key != other.key {
+            findings.table = it.table;
+            let message = format!("{} has the same _HID and _UID", path_text(names.scope_path(other)));
+            findings.tell(&AML_UID_TWICE, it.offset, message);
         }
     }
-}
-
-/// Finds that the _UID with a number among the objects is another one's, of a device with the same _HID.
-fn tell_unique(names: &Names<'_>, number: usize, other: usize, findings: &mut Findings) {
-    let (Some(it), Some(other)) = (names.all.get(number), names.all.get(other)) else {
-        return;
-    };
-    if it.key == other.key {
-        return;
-    }
-    findings.table = it.table;
-    print_path(names.scope_path(other), &mut findings.text);
-    findings.text.text(" has the same _HID and _UID");
-    findings.end(&AML_UID_TWICE, it.offset);
 }
 
 /// Whether the device whose path has a number is a processor (section 5.6.7).
 fn is_processor(names: &Names<'_>, device: u64) -> bool {
-    match names.find_in(device, b"_HID") {
-        Some(id) => matches!(text_in(id.data), Some(b"ACPI0007")),
-        None => false,
-    }
+    names.find_in(device, b"_HID").is_some_and(|id| text_in(id.data) == Some(b"ACPI0007"))
 }
 
 /// The list of the UIDs of the AML's processors, and the one of the MADT's that are enabled.

@@ -1,14 +1,10 @@
 //! What the AML of tables names.
 
 use crate::check::numbers::Numbers;
-use acpi_programs::rattle::alloc::Global;
+use crate::prelude::*;
 use acpi_programs::walk::aml::value::Value;
-use acpi_programs::walk::aml::{Ends, Object};
-use acpi_programs::walk::language::size;
-use acpi_programs::walk::walk::{Show, ShowObjects, walk_with_objects};
 use std::collections::BTreeMap;
 use zacpi::base::bytes::skip;
-use zacpi::sdt::{Signature, field};
 
 /// The number of the root's path.
 pub(super) const ROOT: u64 = 0;

@@ -3,42 +3,46 @@
 use super::names::{Named, Names};
 use super::{AML_RESOURCE_END, AML_RESOURCE_LENGTH, AML_RESOURCE_SUM, AML_RESOURCE_TYPE};
 use crate::check::findings::Findings;
-use acpi_programs::rattle::Pieces;
 use acpi_programs::walk::aml::constant::buffer_in;
 use acpi_programs::walk::aml::resources::{Descriptors, END, tag_of};
-use acpi_programs::walk::language::{is_chosen, next_word, number_of};
+use std::ops::RangeInclusive;
 use zacpi::base::bytes::byte_sum;
 
-/// Descriptors: the first byte, without the length in it if that is small, and the lengths that it has after the first
-/// byte, or after the two of the length if it is large.
-const LENGTHS: &str = "\
-0x20 2-3
-0x28 2
-0x30 0-1
-0x38 0
-0x40 7
-0x48 3
-0x50 5
-0x70 1-7
-0x78 1
-0x81 9
-0x82 12
-0x84 0-65535
-0x85 17
-0x86 9
-0x87 23-65535
-0x88 13-65535
-0x89 6-65535
-0x8A 43-65535
-0x8B 53-65535
-0x8C 20-65535
-0x8D 13-65535
-0x8E 9-65535
-0x8F 13-65535
-0x90 9-65535
-0x91 13-65535
-0x92 13-65535
-0x93 13-65535";
+/// The lengths that a descriptor has after its first byte, or after the two of the length if it is large, by its first
+/// byte, without the length in it if that is small.
+fn lengths_of(tag: u8) -> Option<RangeInclusive<u64>> {
+    const MOST: u64 = 65535;
+    Some(match tag {
+        0x20 => 2..=3,
+        0x28 => 2..=2,
+        0x30 => 0..=1,
+        0x38 => 0..=0,
+        0x40 => 7..=7,
+        0x48 => 3..=3,
+        0x50 => 5..=5,
+        0x70 => 1..=7,
+        0x78 => 1..=1,
+        0x81 => 9..=9,
+        0x82 => 12..=12,
+        0x84 => 0..=MOST,
+        0x85 => 17..=17,
+        0x86 => 9..=9,
+        0x87 => 23..=MOST,
+        0x88 => 13..=MOST,
+        0x89 => 6..=MOST,
+        0x8A => 43..=MOST,
+        0x8B => 53..=MOST,
+        0x8C => 20..=MOST,
+        0x8D => 13..=MOST,
+        0x8E => 9..=MOST,
+        0x8F => 13..=MOST,
+        0x90 => 9..=MOST,
+        0x91 => 13..=MOST,
+        0x92 => 13..=MOST,
+        0x93 => 13..=MOST,
+        _ => return None,
+    })
+}
 
 /// The bytes of the resource template that a name is set to, and where they begin in its table.
 pub(super) fn template_of<'a>(names: &Names<'a>, it: &Named<'a>) -> Option<(usize, &'a [u8])> {
@@ -76,17 +80,12 @@ pub(super) fn check_template(names: &Names<'_>, it: &Named<'_>, findings: &mut F
 
 /// Judges the type and the length of the descriptor at an offset of a table.
 fn check_descriptor(offset: usize, descriptor: &[u8], findings: &mut Findings) {
-    let tag = tag_of(descriptor.first().copied().unwrap_or(0)) as u64;
-    let head = if tag < 0x80 { 1 } else { 3usize };
+    let tag = tag_of(descriptor.first().copied().unwrap_or(0));
+    let head = if tag < 0x80 { 1 } else { 3 };
     let length = descriptor.len().saturating_sub(head) as u64;
-    for line in LENGTHS.pieces('\n') {
-        let (of, lengths) = next_word(line);
-        if number_of(of) == Some(tag) {
-            if !is_chosen(length, lengths) {
-                findings.add(&AML_RESOURCE_LENGTH, offset, &[tag, length]);
-            }
-            return;
-        }
+    match lengths_of(tag) {
+        Some(lengths) if lengths.contains(&length) => {}
+        Some(_) => findings.add(&AML_RESOURCE_LENGTH, offset, &[tag.into(), length]),
+        None => findings.add(&AML_RESOURCE_TYPE, offset, &[tag.into()]),
     }
-    findings.add(&AML_RESOURCE_TYPE, offset, &[tag]);
 }

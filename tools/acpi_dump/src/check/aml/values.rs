@@ -1,12 +1,13 @@
 //! What names of a meaning are set to: ids, states and references (ACPI 6.5, sections 6.1, 6.2.13, 6.3.7 and 7.4.2).
 
 use super::names::{Named, Names, ROOT};
-use super::{AML_EISA_ID, AML_LINK_NOWHERE, AML_NO_S5, AML_SLEEP_TYPE, AML_STATUS, AML_TEXT_ID};
+use super::{
+    AML_EISA_ID, AML_LINK_NOWHERE, AML_NO_S5, AML_SLEEP_TYPE, AML_STATUS, AML_TEXT_ID, elements_in, path_text,
+};
 use crate::check::findings::Findings;
 use crate::check::machine::Machine;
-use acpi_programs::walk::aml::constant::{elements_of, integer_in, is_eisa_id, name_in, next_element};
-use acpi_programs::walk::fields::print_path;
-use zacpi::sdt::{Signature, field};
+use crate::prelude::*;
+use acpi_programs::walk::aml::constant::{integer_in, is_eisa_id, name_in};
 
 /// The text that a constant is, without its zero.
 pub(super) fn text_in(data: &[u8]) -> Option<&[u8]> {
@@ -29,17 +30,11 @@ pub(super) fn check_value(names: &Names<'_>, it: &Named<'_>, findings: &mut Find
 
 /// Judges the ids of _CID: one, or a package of them.
 fn check_compatible(it: &Named<'_>, findings: &mut Findings) {
-    let Some((_, elements)) = elements_of(it.data) else {
+    let Some(elements) = elements_in(it.data) else {
         return check_id(it.at, it.data, false, findings);
     };
-    let end = it.at.saturating_add(it.data.len());
-    let mut rest = elements;
-    for _ in 0..elements.len() {
-        let Some((element, others)) = next_element(rest) else {
-            return;
-        };
-        check_id(end.saturating_sub(rest.len()), element, false, findings);
-        rest = others;
+    for (element, left) in elements {
+        check_id(it.at + it.data.len() - left, element, false, findings);
     }
 }
 
@@ -61,13 +56,9 @@ fn check_id(at: usize, data: &[u8], is_hid: bool, findings: &mut Findings) {
 
 /// Whether a text is a PNP id or an ACPI id.
 fn is_text_id(text: &[u8]) -> bool {
-    let prefix = text.len().saturating_sub(4);
-    let letters = text.get(..prefix).unwrap_or(&[]);
-    let digits = text.get(prefix..).unwrap_or(&[]);
-    let may_be_digits = prefix == 4;
-    (prefix == 3 || prefix == 4)
-        && letters.iter().all(|it| it.is_ascii_uppercase() || may_be_digits && it.is_ascii_digit())
-        && digits.iter().all(|it| it.is_ascii_hexdigit())
+    let (letters, digits) = text.split_at(text.len().saturating_sub(4));
+    let is_letter = |it: &u8| it.is_ascii_uppercase() || letters.len() == 4 && it.is_ascii_digit();
+    matches!(letters.len(), 3 | 4) && letters.iter().all(is_letter) && digits.iter().all(u8::is_ascii_hexdigit)
 }
 
 /// Judges a constant _STA.
@@ -81,26 +72,15 @@ fn check_status(it: &Named<'_>, findings: &mut Findings) {
 
 /// Judges the types of a sleep state: the first two elements, of which the second may be missing.
 fn check_types(it: &Named<'_>, findings: &mut Findings) {
-    let Some((_, mut rest)) = elements_of(it.data) else {
-        return;
-    };
-    let end = it.at.saturating_add(it.data.len());
-    for _ in 0..2 {
-        let Some((element, others)) = next_element(rest) else {
-            return;
-        };
-        let at = end.saturating_sub(rest.len());
+    for (element, left) in elements_in(it.data).into_iter().flatten().take(2) {
+        let at = it.at + it.data.len() - left;
         match integer_in(element) {
             Some(number) if number > 7 => {
-                let words = "the type # has more than three bits";
-                findings.add_words(&AML_SLEEP_TYPE, at, words, &[number]);
+                findings.tell(&AML_SLEEP_TYPE, at, format!("the type {number:#x} has more than three bits"));
             }
-            None if name_in(element).is_none() => {
-                findings.add_words(&AML_SLEEP_TYPE, at, "a type is no integer", &[]);
-            }
+            None if name_in(element).is_none() => findings.tell(&AML_SLEEP_TYPE, at, "a type is no integer".into()),
             _ => {}
         }
-        rest = others;
     }
 }
 
@@ -135,56 +115,33 @@ pub(super) fn check_links(machine: &Machine<'_>, names: &Names<'_>, findings: &m
 
 /// Finds the first link device that a constant _PRT names and that isn't there.
 fn check_routes(names: &Names<'_>, it: &Named<'_>, findings: &mut Findings) {
-    let Some((_, elements)) = elements_of(it.data) else {
-        return;
-    };
-    let end = it.at.saturating_add(it.data.len());
-    let mut rest = elements;
-    for _ in 0..elements.len() {
-        let Some((route, others)) = next_element(rest) else {
-            return;
-        };
-        if let Some(source) = source_of(route)
-            && let Some((is_rooted, ups, segments)) = name_in(source)
+    for (route, left) in elements_in(it.data).into_iter().flatten() {
+        if let Some((is_rooted, ups, segments)) = source_of(route).and_then(name_in)
             && !is_there(names, it, (is_rooted, ups, segments))
         {
             findings.table = it.table;
-            print_path(segments, &mut findings.text);
-            findings.text.text(" isn't defined");
-            return findings.end(&AML_LINK_NOWHERE, end.saturating_sub(rest.len()));
+            let message = format!("{} isn't defined", path_text(segments));
+            return findings.tell(&AML_LINK_NOWHERE, it.at + it.data.len() - left, message);
         }
-        rest = others;
     }
 }
 
 /// The source of a route: its third element.
 fn source_of(route: &[u8]) -> Option<&[u8]> {
-    let (_, elements) = elements_of(route)?;
-    let (_, rest) = next_element(elements)?;
-    let (_, rest) = next_element(rest)?;
-    Some(next_element(rest)?.0)
+    elements_in(route)?.nth(2).map(|(source, _)| source)
 }
 
 /// Whether there is what an object refers to: whether that begins at the root, how many scopes up it begins, and its
 /// segments. One segment alone is sought in all scopes outwards (section 5.3).
-fn is_there(names: &Names<'_>, it: &Named<'_>, name: (bool, usize, &[u8])) -> bool {
-    let (is_rooted, ups, segments) = name;
-    let scope = names.scope_path(it);
-    let depth = (scope.len() / 4).saturating_sub(ups);
+fn is_there(names: &Names<'_>, it: &Named<'_>, (is_rooted, ups, segments): (bool, usize, &[u8])) -> bool {
     if is_rooted {
         return names.find_in(ROOT, segments).is_some();
     }
-    let is_sought = ups == 0 && segments.len() == 4;
-    for up in 0..=depth {
-        let outer = scope.get(..depth.saturating_sub(up).saturating_mul(4)).unwrap_or(&[]);
-        if let Some(scope) = names.number_of(ROOT, outer)
-            && names.find_in(scope, segments).is_some()
-        {
-            return true;
-        }
-        if !is_sought {
-            return false;
-        }
-    }
-    false
+    let scope = names.scope_path(it);
+    let depth = (scope.len() / 4).saturating_sub(ups);
+    let outermost = if ups == 0 && segments.len() == 4 { 0 } else { depth };
+    (outermost..=depth).rev().any(|depth| {
+        let outer = names.number_of(ROOT, &scope[..4 * depth]);
+        outer.is_some_and(|scope| names.find_in(scope, segments).is_some())
+    })
 }
