@@ -14,7 +14,7 @@ mod prelude;
 mod summary;
 mod text;
 
-pub use dump::run::run;
+pub use dump::run::{printed_of, run};
 
 /// The options, for what completes them.
 pub fn options() -> clap::Command {

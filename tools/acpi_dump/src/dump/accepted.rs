@@ -1,10 +1,11 @@
 //! What is left out of what rules find: the findings of an earlier check, and those that a list accepts.
 
+use super::files::Files;
 use super::request::Request;
 use crate::check::rules::{Finding, rule_of};
 use crate::document::letters;
 use crate::prelude::*;
-use acpi_programs::input::sources::{HostSources, Sources, reason_of};
+use acpi_programs::input::sources::{Sources, reason_of};
 use serde_json::Value;
 
 /// The files that `--baseline` and `--ignore-rules` name, and what is in them.
@@ -123,11 +124,7 @@ impl<'w> Accepted<'w> {
     /// Reads the files that a request names.
     ///
     /// Fails, after printing why, if the system returns an error.
-    pub(crate) fn read(
-        request: &Request<'w>,
-        sources: &mut HostSources<'_>,
-        log: &mut Log,
-    ) -> Result<Accepted<'w>, Stop> {
+    pub(crate) fn read(request: &Request<'w>, sources: &mut Files<'_>, log: &mut Log) -> Result<Accepted<'w>, Stop> {
         let mut read = |name: Option<&'w str>| match name.map(|name| sources.read(Global, name, request.reading.most)) {
             None => Ok(None),
             Some(Ok(bytes)) => Ok(name.map(|name| (name, bytes.to_vec()))),

@@ -4,6 +4,7 @@
 mod accepted;
 pub(crate) mod arguments;
 mod contents;
+mod files;
 mod getters;
 mod listing;
 mod paint;

@@ -2,6 +2,7 @@
 
 use super::accepted::Accepted;
 use super::arguments::{Arguments, Refusal};
+use super::files::Files;
 use super::paint::Paint;
 use super::request::{Color, Request, View};
 use super::usage::Wrong;
@@ -19,7 +20,7 @@ pub(crate) struct Run<'r> {
     /// What is left out of what rules find.
     pub(crate) accepted: Accepted<'r>,
     pub(crate) paint: Paint,
-    pub(crate) sources: HostSources<'r>,
+    pub(crate) sources: Files<'r>,
     pub(crate) storage: HostStorage<'r>,
     pub(crate) out: &'r mut Out,
     pub(crate) log: &'r mut Log,
@@ -31,12 +32,43 @@ pub(crate) struct Run<'r> {
 ///
 /// Fails with the error of the first write or flush of standard output, or else of standard error, that fails.
 pub fn run(words: &[&str]) -> io::Result<u8> {
+    #[cfg(feature = "fleet")]
+    if let Ok(arguments) = Arguments::of(words)
+        && arguments.fleet
+    {
+        return Ok(crate::fleet::run(&arguments));
+    }
     let (mut out, mut log) = (Out::new(Global), Log::new(Global));
-    let status = match Arguments::of(words) {
-        #[cfg(feature = "fleet")]
-        Ok(arguments) if arguments.fleet => return Ok(crate::fleet::run(&arguments)),
+    let status = print_words(words, None, &mut out, &mut log);
+    if let Err(Stop::OutOfMemory) = status {
+        log.text.text("acpi_dump: out of memory\n");
+    }
+    let shown = out.write_to(HostRuntime::new().stdout());
+    if let Err(refusal) = &shown {
+        tell(&mut log, "standard output", &reason_of(refusal));
+    }
+    let logged = log.text.write_to(io::stderr());
+    shown.and(logged)?;
+    Ok(match status {
+        // Something isn't shown.
+        Ok(0 | 3 | 4) if log.is_incomplete => 1,
+        status => status.unwrap_or(1),
+    })
+}
+
+/// What a run prints on standard output, where `-` is an input of these bytes.
+pub fn printed_of(words: &[&str], input: &[u8]) -> String {
+    let mut out = Out::new(Global);
+    match print_words(words, Some(input), &mut out, &mut Log::new(Global)) {
+        Ok(_) | Err(_) => text_of(&out).to_string(),
+    }
+}
+
+/// Prints what words ask for, or what is wrong with them.
+fn print_words(words: &[&str], input: Option<&[u8]>, out: &mut Out, log: &mut Log) -> Result<u8, Stop> {
+    match Arguments::of(words) {
         Ok(arguments) => match Request::of(&arguments) {
-            Ok(request) => print_requested(&request, &mut out, &mut log),
+            Ok(request) => print_requested(&request, input, out, log),
             Err(Wrong(text)) => {
                 log.text.text(&text);
                 Ok(2)
@@ -54,27 +86,13 @@ pub fn run(words: &[&str]) -> io::Result<u8> {
             }
             Ok(2)
         }
-    };
-    if let Err(Stop::OutOfMemory) = status {
-        log.text.text("acpi_dump: out of memory\n");
     }
-    let shown = out.write_to(HostRuntime::new().stdout());
-    if let Err(refusal) = &shown {
-        tell(&mut log, "standard output", &reason_of(refusal));
-    }
-    let logged = log.text.write_to(io::stderr());
-    shown.and(logged)?;
-    Ok(match status {
-        // Something isn't shown.
-        Ok(0 | 3 | 4) if log.is_incomplete => 1,
-        status => status.unwrap_or(1),
-    })
 }
 
 /// Prints what is requested.
-fn print_requested(request: &Request<'_>, out: &mut Out, log: &mut Log) -> Result<u8, Stop> {
+fn print_requested(request: &Request<'_>, input: Option<&[u8]>, out: &mut Out, log: &mut Log) -> Result<u8, Stop> {
     let rt = &HostRuntime::new();
-    let (mut sources, storage) = (HostSources::new(rt), HostStorage::new(rt));
+    let (mut sources, storage) = (Files { host: HostSources::new(rt), input }, HostStorage::new(rt));
     let is_on = match request.color {
         Color::Auto => sources.takes_color(),
         Color::Always => true,
