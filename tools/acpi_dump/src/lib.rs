@@ -16,12 +16,10 @@ mod text;
 
 pub use dump::run::{printed_of, run};
 
-/// The options, for what completes them.
 pub fn options() -> clap::Command {
     dump::arguments::command()
 }
 
-/// The ids of the rules.
 pub fn rules() -> Vec<&'static str> {
     check::rules::all().map(|rule| rule.id).collect()
 }

@@ -10,7 +10,6 @@ pub(crate) fn printed(print: impl FnOnce(&mut Out)) -> String {
     text_of(&out).to_string()
 }
 
-/// What is in an output.
 pub(crate) fn text_of(out: &Out) -> &str {
     out.printed().unwrap_or_default()
 }

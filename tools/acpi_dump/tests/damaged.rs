@@ -1,4 +1,4 @@
-//! Damaged inputs of each kind in each view, chosen by a seed: 250 of each, or $DAMAGED, and those of a fuzzer.
+//! Damaged inputs of each kind in each view, chosen by a seed: 2,000 of each kind, or $DAMAGED.
 
 mod views;
 
@@ -44,7 +44,7 @@ fn data(name: &str) -> Vec<u8> {
 
 /// Shows damaged ones of some inputs, as words describe them.
 fn show_damaged(kind: &[&str], inputs: &[Vec<u8>]) {
-    let count = std::env::var("DAMAGED").ok().and_then(|count| count.parse().ok()).unwrap_or(250);
+    let count = std::env::var("DAMAGED").ok().and_then(|count| count.parse().ok()).unwrap_or(2000);
     let mut random = Random(0x2545_f491_4f6c_dd1d);
     for number in 0..count {
         let input = &inputs[number % inputs.len()];

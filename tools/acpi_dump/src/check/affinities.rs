@@ -16,59 +16,47 @@ use zacpi::numa::srat::{SRAT_GRAMMAR, SratEntry};
 
 rules! {
     SRAT_NO_DOMAIN = Warning "srat-no-domain", "ACPI 6.5, section 5.2.16",
-        "An enabled processor of the MADT has no domain",
-        "",
+        "An enabled processor of the MADT has no domain", "",
         "Add an enabled entry for the processor, by its APIC ID or its UID. An OS takes it as of domain 0, and gives \
          it memory that may be far.";
     SRAT_UNKNOWN_PROCESSOR = Warning "srat-unknown-processor", "ACPI 6.5, section 5.2.16",
-        "An enabled entry is of a processor that the MADT lacks",
-        "",
+        "An enabled entry is of a processor that the MADT lacks", "",
         "Correct the APIC ID or the UID, or clear Enabled (bit 0 of Flags) in the entry. Its domain may have no \
          processor otherwise.";
     SRAT_OVERLAP = Error "srat-overlap", "ACPI 6.5, section 5.2.16.2",
-        "Ranges of memory of two domains overlap",
-        "# is in domain %, and in domain % by the range at #",
+        "Ranges of memory of two domains overlap", "# is in domain %, and in domain % by the range at #",
         "Correct Base Address and Length, so that each byte is of one domain. Linux uses none of the domains if two \
          overlap.";
     SRAT_EMPTY = Warning "srat-empty", "ACPI 6.5, section 5.2.16.2",
-        "A range of memory has no bytes",
-        "is %",
+        "A range of memory has no bytes", "is %",
         "Write the length of the range, or remove the entry.";
     SRAT_PAST_END = Error "srat-past-end", "ACPI 6.5, section 5.2.16.2",
-        "A range of memory ends above 2^64",
-        "# bytes from # on end above 2^64",
+        "A range of memory ends above 2^64", "# bytes from # on end above 2^64",
         "Correct Base Address or Length: their sum is 2^64 at most.";
     SRAT_REPEATED = Warning "srat-repeated", "ACPI 6.5, section 5.2.16.2",
-        "Ranges of memory of one domain overlap",
-        "# is in the range at # too",
+        "Ranges of memory of one domain overlap", "# is in the range at # too",
         "Join the ranges, or shorten one, so that each byte is listed once. Flags of the two may contradict each \
          other.";
     SRAT_RESERVED_TYPE = Note "srat-reserved-type", "ACPI 6.5, section 5.2.16",
-        "An entry has a reserved type",
-        "# is reserved",
+        "An entry has a reserved type", "# is reserved",
         "Write a type that the specification has. An OS skips the entry, and its processor or memory has no domain \
          then.";
     SLIT_NO_SRAT = Warning "slit-no-srat", "ACPI 6.5, section 5.2.17",
-        "There are localities, but no SRAT says what is in them",
-        "the machine has no SRAT",
+        "There are localities, but no SRAT says what is in them", "the machine has no SRAT",
         "Add an SRAT that says which memory and processors the localities have, or remove the SLIT. Distances alone \
          tell an OS nothing.";
     SLIT_DIAGONAL = Error "slit-diagonal", "ACPI 6.5, section 5.2.17",
-        "The distance of a locality from itself isn't 10",
-        "locality % is at % from itself",
+        "The distance of a locality from itself isn't 10", "locality % is at % from itself",
         "Write 10, to which all other distances are relative. Linux ignores a SLIT with another one.";
     SLIT_RESERVED_DISTANCE = Error "slit-reserved-distance", "ACPI 6.5, section 5.2.17",
-        "A distance is one of 0 to 9, which are reserved",
-        "locality % is at % from locality %",
+        "A distance is one of 0 to 9, which are reserved", "locality % is at % from locality %",
         "Write 255 if the one can't be reached from the other, else a distance over 10. Linux ignores a SLIT with a \
          lower one.";
     SLIT_ASYMMETRIC = Note "slit-asymmetric", "ACPI 6.5, section 5.2.17",
-        "Two localities are at different distances from each other",
-        "% from % to %, % from % to %",
+        "Two localities are at different distances from each other", "% from % to %, % from % to %",
         "Write one distance for both ways. If the ways do differ, nothing is wrong.";
     SLIT_TOO_FEW = Warning "slit-too-few", "ACPI 6.5, section 5.2.17",
-        "A domain of the SRAT isn't one of the localities",
-        "domain %, and the SLIT has % localities",
+        "A domain of the SRAT isn't one of the localities", "domain %, and the SLIT has % localities",
         "Set Number of System Localities to one more than the highest domain of the SRAT, and write the distances of \
          all of them.";
 }
@@ -137,7 +125,6 @@ fn add_processors(madt: &[u8], numbers: &mut Numbers) -> bool {
     !has_sapic
 }
 
-/// Judges the enabled ranges of memory of a SRAT.
 pub(crate) fn check_ranges(srat: &[u8], findings: &mut Findings) {
     let mut ranges = Vec::new();
     for (offset, entry) in Pieces::of(srat, 48, (1, 1)) {

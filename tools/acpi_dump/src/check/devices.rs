@@ -11,60 +11,47 @@ use zacpi::mcfg::McfgEntryIter;
 
 rules! {
     MCFG_BUSES = Error "mcfg-buses", "PCI Firmware Specification 3.3, section 4.1.2",
-        "The first bus of a region is above its last",
-        "bus % is above the last one, %",
+        "The first bus of a region is above its last", "bus % is above the last one, %",
         "Correct Start Bus Number or End Bus Number. The region has both, and all between them.";
     MCFG_UNALIGNED = Error "mcfg-unaligned", "PCI Firmware Specification 3.3, section 4.1.2",
-        "A region's base isn't at a multiple of 1 MiB",
-        "# isn't a multiple of 0x100000",
+        "A region's base isn't at a multiple of 1 MiB", "# isn't a multiple of 0x100000",
         "Set Base Address to where bus 0 is or would be, even if the region begins with a later one. Each bus takes 1 \
          MiB.";
     MCFG_PAST_END = Error "mcfg-past-end", "PCI Firmware Specification 3.3, section 4.1.2",
-        "A region ends above 2^64",
-        "bus % is above 2^64, from # on",
+        "A region ends above 2^64", "bus % is above 2^64, from # on",
         "Correct Base Address or End Bus Number. Bus N is N MiB above Base Address.";
     MCFG_SHARED_BUS = Error "mcfg-shared-bus", "PCI Firmware Specification 3.3, section 4.1.2",
-        "Two regions of a segment have a bus",
-        "bus % is in the region at # too",
+        "Two regions of a segment have a bus", "bus % is in the region at # too",
         "List each bus of a segment in one region. An OS may take the one or the other, and reads another device's \
          registers.";
     MCFG_OVERLAP = Error "mcfg-overlap", "PCI Firmware Specification 3.3, section 4.1.2",
-        "The memory of two regions overlaps",
-        "# is memory of the region at # too",
+        "The memory of two regions overlaps", "# is memory of the region at # too",
         "Place the regions in memory of their own, 1 MiB for each bus. Otherwise two devices have the same registers.";
     HPET_SPACE = Error "hpet-space", "IA-PC HPET Specification 1.0a, section 3.2.4",
-        "The registers aren't in memory",
-        "has address space %, and memory's is 0",
+        "The registers aren't in memory", "has address space %, and memory's is 0",
         "Set Address Space ID to 0: the registers of an HPET are in memory.";
     HPET_ZERO = Error "hpet-zero", "IA-PC HPET Specification 1.0a, section 3.2.4",
-        "The registers are at address 0",
-        "is 0",
+        "The registers are at address 0", "is 0",
         "Write the address of the registers, on most PCs 0xFED00000, or remove the table if the HPET is off.";
     HPET_UNALIGNED = Error "hpet-unaligned", "IA-PC HPET Specification 1.0a, section 3.2.4",
-        "The registers aren't at a multiple of 1 KiB",
-        "# isn't a multiple of 0x400",
+        "The registers aren't at a multiple of 1 KiB", "# isn't a multiple of 0x400",
         "Write the address at which the block of registers begins, which is a multiple of 1 KiB.";
     BGRT_VERSION = Warning "bgrt-version", "ACPI 6.5, section 5.2.23",
-        "The version isn't 1",
-        "is %, and not 1",
+        "The version isn't 1", "is %, and not 1",
         "Write 1, the only version that there is. Linux ignores the table otherwise.";
     BGRT_TYPE = Warning "bgrt-type", "ACPI 6.5, section 5.2.23",
-        "The image is of a reserved type",
-        "is %, and a bitmap's is 0",
+        "The image is of a reserved type", "is %, and a bitmap's is 0",
         "Write 0, and have the image as a bitmap (BMP). No other type is defined.";
     BGRT_ZERO = Warning "bgrt-zero", "ACPI 6.5, section 5.2.23",
-        "The image is at address 0",
-        "is %",
+        "The image is at address 0", "is %",
         "Write the address of the bitmap, in memory of type EfiBootServicesData, or remove the table if no logo was \
          shown.";
     DBG2_CONSOLE = Note "dbg2-console", "Microsoft Debug Port Table 2",
-        "No serial port has the registers of the SPCR",
-        "no serial port of the DBG2 has # of address space %",
+        "No serial port has the registers of the SPCR", "no serial port of the DBG2 has # of address space %",
         "If the console is a debug port too, list it in the DBG2 by the same address. If they are two ports, nothing \
          is wrong.";
 }
 
-/// Judges the first SPCR beside the first DBG2.
 pub(crate) fn check_console(machine: &Machine<'_>, findings: &mut Findings) {
     if let Some((index, console)) = machine.first(Signature::SPCR)
         && let Some((space, address)) = register_at(console, 40)
@@ -76,7 +63,6 @@ pub(crate) fn check_console(machine: &Machine<'_>, findings: &mut Findings) {
     }
 }
 
-/// Judges the regions of an MCFG.
 pub(crate) fn check_regions(mcfg: &[u8], findings: &mut Findings) {
     let mut buses = Vec::new();
     let mut memory = Vec::new();

@@ -7,22 +7,18 @@ use crate::prelude::*;
 
 rules! {
     FACS_ALIGNMENT = Warning "facs-alignment", "ACPI 6.5, section 5.2.10",
-        "The FACS isn't at a multiple of 64",
-        "is at #",
+        "The FACS isn't at a multiple of 64", "is at #",
         "Allocate the FACS at a multiple of 64 bytes, in memory that the OS leaves alone (ACPI NVS).";
     FACS_LENGTH = Error "facs-length", "ACPI 6.5, section 5.2.10",
-        "The Length of the FACS is under 64",
-        "is %",
+        "The Length of the FACS is under 64", "is %",
         "Set Length to 64 or more, and have as many bytes. An OS may refuse a shorter FACS, and has neither Global \
          Lock nor waking vector then.";
     FACS_VERSION = Note "facs-version", "ACPI 6.5, section 5.2.10",
-        "The Version of the FACS isn't that of the FADT's revision",
-        "is %, should be % beside a FADT of revision %",
+        "The Version of the FACS isn't that of the FADT's revision", "is %, should be % beside a FADT of revision %",
         "Set Version to the one that the message names. An OS tells by it whether X_Firmware_Waking_Vector and the \
          flags of later versions are there.";
 }
 
-/// Judges a FACS, beside the first FADT.
 pub(crate) fn check_facs(machine: &Machine<'_>, entry: &Entry<'_>, findings: &mut Findings) {
     if !entry.bytes.starts_with(b"FACS") {
         return;

@@ -8,47 +8,38 @@ use crate::prelude::*;
 
 rules! {
     FADT_DSDT_DIFFERS = Warning "fadt-dsdt-differs", "ACPI 6.5, section 5.2.9",
-        "DSDT and X_DSDT are two addresses",
-        "is #, and the field of 32 bits #",
+        "DSDT and X_DSDT are two addresses", "is #, and the field of 32 bits #",
         "Set both to one address, or DSDT to 0. An OS that can use X_DSDT ignores DSDT, an older one reads DSDT: they \
          would load two DSDTs.";
     FADT_FACS_DIFFERS = Warning "fadt-facs-differs", "ACPI 6.5, section 5.2.9",
-        "FIRMWARE_CTRL and X_FIRMWARE_CTRL are two addresses",
-        "is #, and the field of 32 bits #",
+        "FIRMWARE_CTRL and X_FIRMWARE_CTRL are two addresses", "is #, and the field of 32 bits #",
         "Set both to one address, or FIRMWARE_CTRL to 0. The waking vector is written to the FACS that the OS takes, \
          and the firmware has to read it from that one.";
     FADT_NO_DSDT = Error "fadt-no-dsdt", "ACPI 6.5, section 5.2.9",
-        "Neither DSDT nor X_DSDT is an address",
-        "is 0, as X_DSDT is",
+        "Neither DSDT nor X_DSDT is an address", "is 0, as X_DSDT is",
         "Set X_DSDT to the address of the DSDT, and DSDT too if it is below 4 GiB. Without a DSDT an OS doesn't use \
          ACPI.";
     FADT_NO_FACS = Error "fadt-no-facs", "ACPI 6.5, section 5.2.9",
-        "Neither FIRMWARE_CTRL nor X_FIRMWARE_CTRL is an address on fixed hardware",
-        "is 0, as X_FIRMWARE_CTRL is",
+        "Neither FIRMWARE_CTRL nor X_FIRMWARE_CTRL is an address on fixed hardware", "is 0, as X_FIRMWARE_CTRL is",
         "Set X_FIRMWARE_CTRL or FIRMWARE_CTRL to the address of a FACS, which has the Global Lock and the waking \
          vector. Only a machine of reduced hardware may go without one.";
     FADT_BLOCK_DIFFERS = Warning "fadt-block-differs", "ACPI 6.5, section 5.2.9",
-        "The two fields of a block of registers give it two places",
-        "",
+        "The two fields of a block of registers give it two places", "",
         "Set both fields to the same port, or the field of 32 bits to 0. An OS takes the generic address if it isn't \
          0, an older one the other field, and one of them reaches no register.";
     FADT_NO_BLOCK = Error "fadt-no-block", "ACPI 6.5, section 4.8.3",
-        "Fixed hardware has a block of registers at no place",
-        "is 0, and so is its generic address",
+        "Fixed hardware has a block of registers at no place", "is 0, and so is its generic address",
         "Set the address of the block: PM1a_EVT_BLK, PM1a_CNT_BLK, and PM_TMR_BLK if there is a timer. A machine \
          without these registers sets HW_REDUCED_ACPI (bit 20 of Flags).";
     FADT_SPACE = Error "fadt-space", "ACPI 6.5, section 5.2.9",
-        "A block of registers is neither in memory nor at ports",
-        "has address space %",
+        "A block of registers is neither in memory nor at ports", "has address space %",
         "Set Address Space ID to 0 (system memory) or 1 (system I/O). An OS can reach no other space before its \
          drivers run.";
     FADT_ACCESS_SIZE = Error "fadt-access-size", "ACPI 6.5, section 5.2.3.2",
-        "The Access Size of a register is a reserved one",
-        "% is reserved",
+        "The Access Size of a register is a reserved one", "% is reserved",
         "Set Access Size to 0 (undefined), or to 1, 2, 3 or 4 for a byte, a word, a double word or a quad word.";
     FADT_ARM_FIXED = Error "fadt-arm-fixed", "ACPI 6.5, section 5.2.9",
-        "A machine of GICs has fixed hardware",
-        "HW_REDUCED_ACPI isn't set",
+        "A machine of GICs has fixed hardware", "HW_REDUCED_ACPI isn't set",
         "Set HW_REDUCED_ACPI (bit 20 of Flags), and leave the blocks of fixed hardware at 0. Linux boots no Arm \
          machine by ACPI without this flag.";
     FADT_NO_PSCI = Warning "fadt-no-psci", "ACPI 6.5, section 5.2.9.4",
@@ -57,55 +48,44 @@ rules! {
         "Set PSCI_COMPLIANT (bit 0 of ARM_BOOT_ARCH), and PSCI_USE_HVC (bit 1) if calls go by HVC. Without PSCI each \
          GICC needs its Parked Address.";
     FADT_BLOCK_WIDTH = Warning "fadt-block-width", "ACPI 6.5, section 5.2.9",
-        "The Register Bit Width of a block isn't that of its length",
-        "",
+        "The Register Bit Width of a block isn't that of its length", "",
         "Set Register Bit Width to eight times the length of the block in bytes. An OS that goes by the smaller one \
          misses the registers after it.";
     FADT_EVENT_LENGTH = Error "fadt-event-length", "ACPI 6.5, section 5.2.9",
-        "PM1_EVT_LEN is under 4",
-        "is %",
+        "PM1_EVT_LEN is under 4", "is %",
         "Set PM1_EVT_LEN to 4 or more: at least two bytes of status registers, and as many that enable events.";
     FADT_CONTROL_LENGTH = Error "fadt-control-length", "ACPI 6.5, section 5.2.9",
-        "PM1_CNT_LEN is under 2",
-        "is %",
+        "PM1_CNT_LEN is under 2", "is %",
         "Set PM1_CNT_LEN to 2 or more: the register with SCI_EN and the sleep type has 16 bits.";
     FADT_GPE_LENGTH = Error "fadt-gpe-length", "ACPI 6.5, section 5.2.9",
-        "The length of a block of general purpose events is odd",
-        "is %: half are status registers, half enable them",
+        "The length of a block of general purpose events is odd", "is %: half are status registers, half enable them",
         "Set the length to twice the number of bytes of status registers. The registers that enable events begin at \
          half of it.";
     FADT_TIMER_LENGTH = Error "fadt-timer-length", "ACPI 6.5, section 5.2.9",
-        "PM_TMR_LEN is neither 0 nor 4",
-        "is %",
+        "PM_TMR_LEN is neither 0 nor 4", "is %",
         "Set PM_TMR_LEN to 4 if there is a PM timer, else to 0, and PM_TMR_BLK with it.";
     FADT_SCI_INTERRUPT = Error "fadt-sci-interrupt", "ACPI 6.5, section 5.2.9",
-        "SCI_INT is 0 on fixed hardware",
-        "is %, the timer's",
+        "SCI_INT is 0 on fixed hardware", "is %, the timer's",
         "Set SCI_INT to the interrupt of the SCI, on most PCs 9. Without it no event of fixed hardware and no general \
          purpose event reaches the OS.";
     FADT_SMI_COMMAND = Warning "fadt-smi-command", "ACPI 6.5, section 5.2.9",
-        "SMI_CMD is 0, but ACPI_ENABLE isn't",
-        "is 0, but ACPI_ENABLE isn't",
+        "SMI_CMD is 0, but ACPI_ENABLE isn't", "is 0, but ACPI_ENABLE isn't",
         "Set SMI_CMD to the port of SMI commands, or ACPI_ENABLE and ACPI_DISABLE to 0 if the machine is always in \
          ACPI mode. An OS writes ACPI_ENABLE to that port.";
     FADT_FIXED_BLOCKS = Warning "fadt-fixed-blocks", "ACPI 6.5, section 5.2.9",
-        "A machine of reduced hardware has blocks of fixed hardware",
-        "HW_REDUCED_ACPI is set",
+        "A machine of reduced hardware has blocks of fixed hardware", "HW_REDUCED_ACPI is set",
         "Set the addresses and lengths of these blocks to 0, or clear HW_REDUCED_ACPI (bit 20 of Flags) if the \
          hardware is there. An OS ignores them as long as it is set.";
     FADT_RESET_REGISTER = Warning "fadt-reset-register", "ACPI 6.5, section 4.8.3.6",
-        "RESET_REG isn't 8 bits of memory, ports or PCI",
-        "has % bits of the address space %",
+        "RESET_REG isn't 8 bits of memory, ports or PCI", "has % bits of the address space %",
         "Give RESET_REG a Register Bit Width of 8 and the address space 0 (memory), 1 (I/O) or 2 (PCI configuration \
          of bus 0), or clear RESET_REG_SUP (bit 10 of Flags).";
     FADT_PROFILE = Note "fadt-profile", "ACPI 6.5, section 5.2.9.1",
-        "Preferred_PM_Profile is a reserved one",
-        "% is reserved",
+        "Preferred_PM_Profile is a reserved one", "% is reserved",
         "Write 0 (unspecified) to 8 (tablet) to Preferred_PM_Profile. An OS chooses its defaults of power management \
          by it.";
     FADT_RESERVED_FLAGS = Note "fadt-reserved-flags", "ACPI 6.5, sections 5.2.9.2 to 5.2.9.4",
-        "A reserved flag is set",
-        "has the reserved flags #",
+        "A reserved flag is set", "has the reserved flags #",
         "Clear the bits of Flags, IAPC_BOOT_ARCH and ARM_BOOT_ARCH that are reserved. If one is of a specification \
          newer than these rules, nothing is wrong.";
 }
@@ -125,7 +105,6 @@ const BLOCKS: [Block; 8] = [
     ("GPE1_BLK", 84, 93, 232),
 ];
 
-/// Judges a FADT.
 pub(crate) fn check_fadt(fadt: &[u8], findings: &mut Findings) {
     check_addresses(fadt, findings);
     let flags = field(fadt, 112, 4);
@@ -150,7 +129,6 @@ pub(crate) fn check_fadt(fadt: &[u8], findings: &mut Findings) {
     check_register(fadt, 116, findings);
 }
 
-/// Judges the addresses of the DSDT and the FACS.
 fn check_addresses(fadt: &[u8], findings: &mut Findings) {
     for (id, narrow, wide) in [
         (&FADT_DSDT_DIFFERS, 40usize, 140usize), // DSDT, X_DSDT

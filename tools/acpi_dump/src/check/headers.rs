@@ -11,52 +11,42 @@ use std::ops::RangeInclusive;
 
 rules! {
     HEADER_SUM = Error "header-sum", "ACPI 6.5, section 5.2.6",
-        "The bytes of a table don't sum to 0",
-        "",
+        "The bytes of a table don't sum to 0", "",
         "Compute the checksum after the last change to the table, so that its bytes, as many as Length, sum to 0 \
          modulo 256. Some loaders refuse a table with another sum.";
     HEADER_REFUSED = Error "header-refused", "ACPI 6.5, section 5.2.6",
-        "A table has no valid header, or its bytes aren't all there",
-        "",
+        "A table has no valid header, or its bytes aren't all there", "",
         "Correct the signature, the Length (36 at least) and the address by which the table is listed. If the dump \
          ends before the table does, take all of the table's memory.";
     HEADER_BYTES_AFTER = Warning "header-bytes-after", "ACPI 6.5, section 5.2.6",
-        "Bytes come after those that the Length counts",
-        "is %, and % more come",
+        "Bytes come after those that the Length counts", "is %, and % more come",
         "If the bytes belong to the table, count them in Length and correct the checksum. If not, cut the file after \
          Length bytes.";
     TABLE_MALFORMED = Error "table-malformed", "ACPI 6.5, section 5.2",
-        "A structure or a list of a table isn't as its type and its length want it",
-        "",
+        "A structure or a list of a table isn't as its type and its length want it", "",
         "Correct the length or the count at this offset, so that the structure ends where its contents do, and within \
          the table. An OS stops here, and misses what follows.";
     HEADER_SHORT = Error "header-short", "ACPI 6.5, section 5.2.6",
-        "The Length ends in the fields of the table's revision",
-        "is %, and the fields of revision % take %",
+        "The Length ends in the fields of the table's revision", "is %, and the fields of revision % take %",
         "Write all fields that this revision has, and count them in Length, or lower Revision to one whose fields are \
          there. An OS takes those past the end as 0, or refuses the table.";
     HEADER_LENGTH = Warning "header-length", "ACPI 6.5, section 5.2.6",
-        "The Length isn't one that the table's revision has",
-        "",
+        "The Length isn't one that the table's revision has", "",
         "Set Length to the size that the specification has for this Revision, or correct Revision. Some OSs tell by \
          the one which fields are there, others by the other.";
     HEADER_REVISION = Note "header-revision", "ACPI 6.5, section 5.2.6",
-        "No specification has the table's Revision",
-        "no revision % is known",
+        "No specification has the table's Revision", "no revision % is known",
         "Set Revision to that of the specification by which the fields are written. If that is newer than these \
          rules, nothing is wrong.";
     HEADER_LETTERS = Note "header-letters", "ACPI 6.5, section 5.2.6",
-        "OEMID, OEM Table ID or Creator ID has letters that aren't printable",
-        "letters that aren't printable",
+        "OEMID, OEM Table ID or Creator ID has letters that aren't printable", "letters that aren't printable",
         "Write printable ASCII. An OS compares these ids letter by letter, where it corrects the firmware of certain \
          machines.";
     HEADER_RESERVED = Note "header-reserved", "ACPI 6.5, section 5.2.1",
-        "A reserved field isn't 0",
-        "isn't 0",
+        "A reserved field isn't 0", "isn't 0",
         "Write 0. A later specification may give these bits a meaning, and an OS would act on it.";
     FIELD_CODE = Note "field-code", "ACPI 6.5, section 5.2.1",
-        "A code or a flag is one that no specification names",
-        "# is reserved",
+        "A code or a flag is one that no specification names", "# is reserved",
         "Write a code that the specification has for this field, and 0 to reserved flags. If the code is of a \
          specification newer than these rules, nothing is wrong.";
 }

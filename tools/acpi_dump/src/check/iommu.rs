@@ -12,18 +12,15 @@ use zacpi::iommu::ivrs::IvrsBlockIter;
 
 rules! {
     RMRR_PAGES = Error "rmrr-pages", "Intel VT-d 4.0, section 8.4",
-        "Reserved memory doesn't begin and end at a page",
-        "# to # aren't pages of 0x1000",
+        "Reserved memory doesn't begin and end at a page", "# to # aren't pages of 0x1000",
         "Write a base that is a multiple of 4 KiB, and as the limit the last byte of a page, whose low 12 bits are \
          all 1.";
     RMRR_LIMIT = Error "rmrr-limit", "Intel VT-d 4.0, section 8.4",
-        "The last byte of reserved memory is before its first",
-        "# is before the base, #",
+        "The last byte of reserved memory is before its first", "# is before the base, #",
         "Write as the limit the address of the last byte, which is the base plus the size minus 1. No device may use \
          the memory otherwise.";
     DRHD_ALL = Error "drhd-all", "Intel VT-d 4.0, section 8.3",
-        "A second unit of a segment has INCLUDE_PCI_ALL",
-        "a unit of segment % before it has INCLUDE_PCI_ALL",
+        "A second unit of a segment has INCLUDE_PCI_ALL", "a unit of segment % before it has INCLUDE_PCI_ALL",
         "Keep INCLUDE_PCI_ALL in one unit of each segment, and list the devices of the others in device scopes.";
     DRHD_LAST = Warning "drhd-last", "Intel VT-d 4.0, section 8.3",
         "A unit comes after that of its segment with INCLUDE_PCI_ALL",
@@ -31,30 +28,24 @@ rules! {
         "Move the unit with INCLUDE_PCI_ALL after all other units of its segment. An OS that reads in order gives it \
          their devices.";
     SCOPE_PATH = Error "scope-path", "Intel VT-d 4.0, section 8.3.1",
-        "A device scope has no hop",
-        "the scope of type % has no hop",
+        "A device scope has no hop", "the scope of type % has no hop",
         "Write at least one device and function to Path, and a Length of 6 plus 2 for each of them.";
     IVHD_RANGE = Error "ivhd-range", "AMD IOMMU 3.08, section 5.2",
-        "The start of a range of devices isn't followed by its end",
-        "no end follows the start: device #",
+        "The start of a range of devices isn't followed by its end", "no end follows the start: device #",
         "Write the end of the range (type 4), with its last DeviceID, right after its start (type 3, 0x43 or 0x47).";
     IVHD_END = Error "ivhd-end", "AMD IOMMU 3.08, section 5.2",
-        "The end of a range of devices follows no start",
-        "it ends no range: device #",
+        "The end of a range of devices follows no start", "it ends no range: device #",
         "Write the start of the range (type 3, 0x43 or 0x47) before its end, or remove the end. One device alone is a \
          select entry (type 2).";
     IORT_MAPPING_END = Error "iort-mapping-end", "Arm DEN0049, IORT",
-        "IDs are mapped from or to some above 32 bits",
-        "# IDs from # on go past 2^32",
+        "IDs are mapped from or to some above 32 bits", "# IDs from # on go past 2^32",
         "Correct Input base, Output base or Number of IDs, which is how many IDs there are minus 1.";
     IORT_MAPPING_OVERLAP = Warning "iort-mapping-overlap", "Arm DEN0049, IORT",
-        "Two ID mappings of a node have one ID",
-        "ID # is also mapped at #",
+        "Two ID mappings of a node have one ID", "ID # is also mapped at #",
         "Map each ID once. Number of IDs is how many there are minus 1: ranges that have one ID in common mostly lack \
          the minus.";
 }
 
-/// Judges the structures of a DMAR.
 pub(crate) fn check_dmar(dmar: &[u8], findings: &mut Findings) {
     // A bit for each segment whose unit with INCLUDE_PCI_ALL has come.
     let mut segments = [0u64; 1024];
@@ -125,7 +116,6 @@ pub(crate) fn check_ivrs(ivrs: &[u8], findings: &mut Findings) {
     }
 }
 
-/// Judges the ID mappings of the nodes of an IORT.
 pub(crate) fn check_iort(iort: &[u8], findings: &mut Findings) {
     let start = field(iort, 40, 4) as usize; // Offset to Array of IORT Nodes
     for (offset, node) in Pieces::of(iort, start, (1, 2)) {

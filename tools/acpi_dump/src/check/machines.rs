@@ -10,35 +10,29 @@ use crate::prelude::*;
 
 rules! {
     PPTT_OFFSET = Error "pptt-offset", "ACPI 6.5, section 5.2.30",
-        "An offset isn't that of a structure of its type",
-        "no structure of its type begins at #",
+        "An offset isn't that of a structure of its type", "no structure of its type begins at #",
         "Write the offset of the structure from the first byte of the table. In Parent and Next Level of Cache 0 \
          stands for none.";
     PPTT_CYCLE = Error "pptt-cycle", "ACPI 6.5, section 5.2.30",
-        "Parents or levels of caches lead back to where they began",
-        "it leads back to the structure at #",
+        "Parents or levels of caches lead back to where they began", "it leads back to the structure at #",
         "Let Parent lead towards the package, and Next Level of Cache towards memory, and end both with 0. An OS that \
          follows them may hang.";
     PPTT_PROCESSOR_NOWHERE = Warning "pptt-processor-nowhere", "ACPI 6.5, section 5.2.30.1",
-        "A processor has a UID that the MADT lacks",
-        "no processor of the MADT has UID %",
+        "A processor has a UID that the MADT lacks", "no processor of the MADT has UID %",
         "Write the UID of the processor's entry in the MADT, or clear ACPI Processor ID valid (bit 1 of Flags). An OS \
          finds no caches for it otherwise.";
     PCCT_LENGTH = Error "pcct-length", "ACPI 6.5, chapter 14",
-        "A channel's shared memory has no bytes",
-        "is 0",
+        "A channel's shared memory has no bytes", "is 0",
         "Write the size of the shared memory in bytes, which has the channel's header and room for its data. An OS \
          uses no channel without it.";
     TPM2_LOG = Error "tpm2-log", "TCG ACPI Specification 1.2",
-        "The log has a length, and is at address 0",
-        "is #, and the log has bytes",
+        "The log has a length, and is at address 0", "is #, and the log has bytes",
         "Write the address of the log, in memory that the OS leaves alone, or 0 to LAML if there is no log.";
 }
 
 /// The nodes of a PPTT by their types, as lists of offsets: those from this type on lead nowhere.
 const OTHERS: u64 = 2;
 
-/// Judges whether the nodes of a PPTT lead in a circle.
 pub(crate) fn check_cycles(pptt: &[u8], findings: &mut Findings) {
     let mut nodes = Numbers::new();
     for (offset, node) in Pieces::of(pptt, 36, (1, 1)) {

@@ -30,7 +30,6 @@ use findings::Findings;
 pub use machine::Machine;
 use machine::table_of;
 
-/// The rules, subject by subject.
 fn subjects() -> [&'static [&'static rules::Rule]; 11] {
     [
         roots::RULES,
@@ -67,7 +66,6 @@ pub fn findings_of(machine: &Machine<'_>) -> Vec<rules::Finding> {
     findings.in_order(machine.entries)
 }
 
-/// Judges a table by itself.
 fn check_table(table: &[u8], findings: &mut Findings) {
     match own_signature(table).as_str().unwrap_or("") {
         "APIC" => madt::check_madt(table, findings),

@@ -47,7 +47,6 @@ impl Numbers {
         (of == list).then_some((number, offset))
     }
 
-    /// Whether a number is in a list.
     pub(crate) fn has(&self, list: u64, number: u64) -> bool {
         self.from(list, number).is_some_and(|(found, _)| found == number)
     }

@@ -10,45 +10,36 @@ use acpi_programs::input::status::Status;
 
 rules! {
     ROOT_NULL_POINTER = Warning "root-null-pointer", "ACPI 6.5, section 5.2.8",
-        "The root table lists the address 0",
-        "no table is at 0",
+        "The root table lists the address 0", "no table is at 0",
         "Remove the entry, and shorten the table's Length by it. An OS may map address 0 and judge what is there as a \
          table.";
     ROOT_LISTED_TWICE = Warning "root-listed-twice", "ACPI 6.5, section 5.2.8",
-        "The root table lists an address twice",
-        "the address # is also at #",
+        "The root table lists an address twice", "the address # is also at #",
         "List each table once. An OS may load an SSDT that is listed twice a second time, and fails at its first name.";
     ROOT_LISTS_DIFFER = Warning "root-lists-differ", "ACPI 6.5, section 5.2.5.3",
-        "The RSDT and the XSDT list different tables",
-        "",
+        "The RSDT and the XSDT list different tables", "",
         "Install and remove tables in both lists, or publish the XSDT alone. An OS reads the XSDT, older ones and \
          some loaders the RSDT, and they would see two machines.";
     ROOT_RSDT_IN_USE = Note "root-rsdt-in-use", "ACPI 6.5, section 5.2.8",
-        "An RSDT leads to the tables of a machine since ACPI 2.0, which has an XSDT",
-        "",
+        "An RSDT leads to the tables of a machine since ACPI 2.0, which has an XSDT", "",
         "Publish an XSDT too, and name it in an RSDP of revision 2. No table that an RSDT lists can be above 4 GiB.";
     ROOT_SECOND_TABLE = Warning "root-second-table", "ACPI 6.5, section 5.2.6",
-        "A table of which a machine has one is there twice",
-        "a machine has one of them",
+        "A table of which a machine has one is there twice", "a machine has one of them",
         "Remove one of the two, such as one that an earlier stage of the firmware left. An OS reads the first only.";
     ROOT_NOTHING_THERE = Note "root-nothing-there", "ACPI 6.5, section 5.2.8",
-        "The input has no byte of a table that is listed",
-        "",
+        "The input has no byte of a table that is listed", "",
         "If the input is all of the memory, correct the entry's address. If it is a part, take the table's memory \
          into the dump.";
     ROOT_NO_FADT = Error "root-no-fadt", "ACPI 6.5, section 5.2.9",
-        "No FADT is listed",
-        "lists no FADT",
+        "No FADT is listed", "lists no FADT",
         "Install a FADT, and list it in the XSDT. Without it an OS finds neither the DSDT nor the registers of power \
          management, and doesn't use ACPI.";
     ROOT_NO_MADT = Warning "root-no-madt", "ACPI 6.5, section 5.2.12",
-        "No MADT is listed",
-        "lists no MADT",
+        "No MADT is listed", "lists no MADT",
         "Install a MADT with the processors and the interrupt controllers. Without it an OS starts one processor at \
          best, and a machine of GICs doesn't boot.";
     ROOT_OVERLAP = Error "root-overlap", "ACPI 6.5, section 5.2",
-        "Two tables share bytes",
-        "shares bytes with the table at #",
+        "Two tables share bytes", "shares bytes with the table at #",
         "Give each table memory of its own for its whole Length. What is written to one of the two, if only its \
          checksum, changes the other.";
 }

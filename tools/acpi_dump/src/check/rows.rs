@@ -64,7 +64,6 @@ impl Row {
         self
     }
 
-    /// The number in a field.
     fn number_in(&self, bytes: &[u8]) -> u64 {
         self.part.map_or_else(|| number_of(bytes), |(offset, length)| number_at(bytes, offset, length))
     }
@@ -148,7 +147,6 @@ fn judge_numbers(rows: &[Row], mut numbers: Numbers, findings: &mut Findings) {
     }
 }
 
-/// Judges a table by the rows of its signature.
 pub(super) fn check_rows(table: &[u8], findings: &mut Findings) {
     let signature = own_signature(table);
     for (name, when, rows) in ROWS {

@@ -14,12 +14,10 @@ pub enum Severity {
 }
 
 impl Severity {
-    /// The severity that a word names.
     pub fn read(word: &str) -> Option<Severity> {
         [Severity::Note, Severity::Warning, Severity::Error].into_iter().find(|severity| severity.word() == word)
     }
 
-    /// Its word.
     pub fn word(self) -> &'static str {
         match self {
             Severity::Note => "note",
@@ -81,7 +79,6 @@ macro_rules! rules {
 
 pub(crate) use rules;
 
-/// All rules, subject by subject.
 pub fn all() -> impl Iterator<Item = &'static Rule> {
     subjects().into_iter().flatten().copied()
 }

@@ -35,7 +35,6 @@ pub(crate) fn segments_of(path: &str) -> Vec<u8> {
     path.bytes().filter(|byte| !matches!(byte, b'\\' | b'.')).collect()
 }
 
-/// The lines of a method's code.
 fn lines_of(names: &Names<'_>, table: &[u8], method: &Known<'_>) -> Lines {
     let (start, end) = method.code();
     granted(Lines::of(Global, names, Extent::of(table, start, end), &segments_of(method.path)))

@@ -37,7 +37,6 @@ impl Items<'_> {
         self.items.push(Item { part: self.open, offset, within, length, name, number: None, start, middle, end });
     }
 
-    /// A structure in the one that is open.
     fn part(&self, offset: u64, length: u64, name: &'static str) -> Part {
         // Its place among the ones of its name in that one.
         let mut before = self.parts.iter().skip(self.open).rev();
@@ -60,13 +59,11 @@ impl Items<'_> {
         }
     }
 
-    /// Adds a structure, which is open then.
     fn enter(&mut self, part: Part) {
         self.open = self.parts.len();
         self.parts.push(part);
     }
 
-    /// Ends the objects that end up to an offset.
     fn leave(&mut self, offset: u64) {
         while self.open > 0 {
             let part = &self.parts[self.open];
@@ -84,7 +81,6 @@ impl Items<'_> {
         }
     }
 
-    /// These structures and items.
     pub(crate) fn side(&self) -> Side<'_> {
         let values = text_of(&self.values);
         Side { table: self.table, parts: &self.parts, items: &self.items, values, end: self.end }
@@ -161,7 +157,6 @@ impl ShowObjects for Items<'_> {
     }
 }
 
-/// The structures and items of a table.
 pub(crate) fn items_of<'t>(entry: &Entry<'t>) -> Items<'t> {
     let (parts, items, values) = (Vec::new(), Vec::new(), Out::new(Global));
     let mut items = Items { table: entry.bytes, parts, items, open: 0, values, end: None };

@@ -31,7 +31,6 @@ impl Known<'_> {
         format!("{}{}", self.word, self.path)
     }
 
-    /// Its length and its value.
     pub(super) fn whole_value(self) -> String {
         format!("{} bytes{}", self.length, self.value)
     }
@@ -62,7 +61,6 @@ impl<'a> Objects<'a> {
         self.shown = own.1;
     }
 
-    /// Adds the bytes up to an offset that no object has.
     fn add_bytes(&mut self, end: u64) {
         if self.shown < end {
             self.add(self.shown, end - self.shown, (self.shown, end), BYTES);
@@ -91,7 +89,6 @@ pub(super) fn keys_of<'a>(objects: &[Known<'a>]) -> Vec<Key<'a>> {
     keys
 }
 
-/// The objects of a table: none, unless it has AML.
 pub(super) fn objects_of(side: Side<'_>) -> Vec<Known<'_>> {
     let mut objects = Objects { side, known: Vec::new(), last: ROOT, shown: SdtHeader::MIN_LENGTH as u64 };
     for part in side.parts {

@@ -104,7 +104,6 @@ impl<'a> Found<'a, '_, '_> {
         }
     }
 
-    /// Adds a structure that one of the tables alone has.
     fn add_alone(&mut self, is_first: bool, part: usize) {
         let (side, old, new, place) =
             if is_first { (self.old, Some(""), None, None) } else { (self.new, None, Some(""), Some(part)) };

@@ -18,12 +18,10 @@ struct Changes<'a, 'n> {
 }
 
 impl<'a> Changes<'a, '_> {
-    /// The number of the next difference.
     fn next(&self) -> usize {
         self.found.len() - self.others + 1
     }
 
-    /// Adds an object that one of the tables alone has.
     fn add_alone(&mut self, object: &Known<'a>, is_first: bool) {
         let part = self.next();
         let (old, new) = if is_first { (Some(""), None) } else { (None, Some("")) };

@@ -52,7 +52,6 @@ pub(crate) struct Part {
 }
 
 impl Part {
-    /// Whether it is an object that has no objects in it.
     pub(crate) fn is_row(&self) -> bool {
         self.own.is_some() && self.last.saturating_sub(self.first) == 1
     }
@@ -70,7 +69,6 @@ pub(crate) struct Side<'a> {
 }
 
 impl<'a> Side<'a> {
-    /// The item of this number, if there is one.
     pub(crate) fn item(self, item: Option<usize>) -> Option<&'a Item> {
         self.items.get(item?)
     }
@@ -91,27 +89,22 @@ impl<'a> Side<'a> {
         item.map_or(&[], |item| self.bytes(item.offset, item.length))
     }
 
-    /// The value of an item without its meaning.
     pub(crate) fn digits(self, item: &Item) -> &'a str {
         &self.values[item.start..item.middle]
     }
 
-    /// What a value means, if there is one.
     pub(crate) fn meaning(self, item: &Item) -> &'a str {
         self.rest(item).trim_ascii()
     }
 
-    /// What is printed after the digits of a value.
     pub(super) fn rest(self, item: &Item) -> &'a str {
         &self.values[item.middle..item.end]
     }
 
-    /// Whether it has AML.
     pub(super) fn has_objects(self) -> bool {
         self.end.is_some() || self.parts.get(1).is_some_and(|first| first.own.is_some())
     }
 
-    /// The header alone, if it has AML, and else all of it.
     pub(super) fn without_objects(self) -> Side<'a> {
         if !self.has_objects() {
             return self;

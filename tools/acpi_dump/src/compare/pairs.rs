@@ -76,7 +76,6 @@ impl Pairs {
         }
     }
 
-    /// Pairs one of the first table with one of the second.
     pub(super) fn take(&mut self, number: usize, other: usize) {
         self.others[number] = Some(other);
         self.firsts[other] = Some(number);

@@ -19,7 +19,6 @@ pub(super) fn cut_piece(text: &str, mark: u8) -> (&str, &str) {
     (text, "")
 }
 
-/// The elements of a value.
 pub(super) fn elements_of(value: &str) -> Vec<&str> {
     let (mut elements, mut rest) = (Vec::new(), value.trim_ascii());
     while !rest.is_empty() {

@@ -52,13 +52,11 @@ pub(crate) struct Resource {
     text: String,
 }
 
-/// A type, and a text as the value.
 fn text(kind: &'static str, print: impl FnOnce(&mut Out)) -> (&'static str, Constant) {
     (kind, Constant::Text(printed(print)))
 }
 
 impl Constant {
-    /// The type and the value of an object of a path.
     pub(super) fn of_object(path: &[u8], value: Value<'_>) -> (&'static str, Constant) {
         match value {
             Value::Data(data) => match resources_in(path, data) {
@@ -96,7 +94,6 @@ impl Constant {
     }
 }
 
-/// The elements of a package that are set.
 fn package_of(count: u64, elements: &[u8], are_ids: bool, depth: u32) -> Vec<Element> {
     let (mut package, mut rest) = (Vec::new(), elements);
     for _ in 0..count {

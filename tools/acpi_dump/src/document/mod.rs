@@ -146,12 +146,10 @@ pub(crate) fn letters(bytes: &[u8]) -> String {
     printed(|out| print_text(bytes, out))
 }
 
-/// Bytes as pairs of hexadecimal digits.
 fn hex(bytes: &[u8]) -> String {
     printed(|out| print_hex(bytes, out))
 }
 
-/// Prints a document, an item or a member a line.
 pub(crate) fn print(document: &impl Serialize, out: &mut Out) {
     let mut serializer = Serializer::with_formatter(Escaped(&mut *out), PrettyFormatter::new());
     document.serialize(&mut serializer).expect("memory is written");

@@ -98,7 +98,6 @@ impl Rows {
         rows.rows
     }
 
-    /// The only row, if there is one.
     pub(crate) fn into_row(mut self) -> Option<Row> {
         self.rows.pop()
     }

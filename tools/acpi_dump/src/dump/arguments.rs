@@ -119,7 +119,6 @@ pub(crate) enum Refusal {
     Asked(String),
 }
 
-/// What the options are.
 pub(crate) fn command() -> Command {
     let of = |id: &'static str, letter| Arg::new(id).long(id).short(letter);
     let help = of("help", 'h').action(ArgAction::Help).help("Print help");
@@ -139,7 +138,6 @@ impl Arguments {
     }
 }
 
-/// The text of what the crate found.
 fn told(command: &Command, error: &clap::Error) -> Refusal {
     let of = |kind| match error.get(kind) {
         Some(ContextValue::String(text)) => text.clone(),
@@ -185,7 +183,6 @@ fn similar<'c>(command: &'c Command, name: &str) -> Option<&'c Arg> {
     alike.max_by(|one, other| likeness(one).total_cmp(&likeness(other)))
 }
 
-/// The help: each option beside what it does.
 fn help(command: &Command) -> String {
     let (inputs, options): (Vec<_>, Vec<_>) = command.get_arguments().partition(|arg| arg.is_positional());
     let help_of = |arg: &Arg| arg.get_help().map(ToString::to_string).unwrap_or_default();

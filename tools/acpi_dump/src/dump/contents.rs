@@ -58,7 +58,6 @@ pub(crate) fn parts_of<'p>(
     shown_of(entries, choices).into_iter().map(part).collect()
 }
 
-/// Prints the tables that are chosen.
 pub(crate) fn print_tables(entries: &[Entry<'_>], choices: &[Choice], names: &Names<'_>, paint: Paint, out: &mut Out) {
     for (entry, contents) in shown_of(entries, choices) {
         print_table(entry, contents, names, paint, out);
@@ -95,7 +94,6 @@ fn print_table(entry: &Entry<'_>, contents: Contents, names: &Names<'_>, paint: 
     }
 }
 
-/// Prints the fields of a table.
 fn print_fields(entry: &Entry<'_>, out: &mut Out) {
     let signature = own_signature(entry.bytes);
     walk_with_objects(Global, signature, entry.bytes, &mut Text { out, depth: 0 });

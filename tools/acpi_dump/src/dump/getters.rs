@@ -34,7 +34,6 @@ fn print_fixed(fadt: &Fadt, out: &mut Out) {
     print_block("GPE1 block", fadt.gpe1_block(), out);
 }
 
-/// Prints an address, or its refusal.
 fn print_address(name: &str, address: AcpiResult<u64>, out: &mut Out) {
     match address {
         Ok(address) => writeln!(out, "  {name}: 0x{address:x}"),

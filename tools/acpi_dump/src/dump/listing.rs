@@ -4,7 +4,6 @@ use crate::dump::paint::Paint;
 use crate::prelude::*;
 use acpi_programs::input::entries::header_of;
 
-/// The name of a file without the folders before it.
 fn last_part(path: &str) -> &str {
     match path.rsplit_once('/') {
         Some((_, name)) if !name.is_empty() => name,
@@ -24,7 +23,6 @@ fn place_column(entries: &[Entry<'_>]) -> (&'static str, usize) {
     (heading, width)
 }
 
-/// Prints the headings, then a line for each table.
 pub(crate) fn print_lines(entries: &[Entry<'_>], paint: Paint, out: &mut Out) {
     let (place, width) = place_column(entries);
     let columns = "LENGTH   REV OEM ID TABLE ID OEM REV  CRTR CRTR REV STATUS";
@@ -35,7 +33,6 @@ pub(crate) fn print_lines(entries: &[Entry<'_>], paint: Paint, out: &mut Out) {
     }
 }
 
-/// Prints the line of a table.
 fn print_line(entry: &Entry<'_>, width: usize, paint: Paint, out: &mut Out) {
     let bytes = entry.bytes;
     let is_cut = bytes.len() < SdtHeader::MIN_LENGTH;
@@ -60,7 +57,6 @@ fn print_line(entry: &Entry<'_>, width: usize, paint: Paint, out: &mut Out) {
     out.text("\n")
 }
 
-/// Prints where a table is.
 fn print_place(place: Place<'_>, width: usize, out: &mut Out) {
     out.text(" ");
     let start = out.length();
@@ -75,7 +71,6 @@ fn print_place(place: Place<'_>, width: usize, out: &mut Out) {
     out.text(" ")
 }
 
-/// Prints the columns of a header.
 fn print_columns(header: &SdtHeader, out: &mut Out) {
     write!(out, "{:08x} {:02x}  ", header.length, header.revision);
     print_text(&header.oem_id, out);

@@ -19,21 +19,18 @@ const RED: &str = "\x1b[31m";
 const PLAIN: &str = "\x1b[0m";
 
 impl Paint {
-    /// Prints what switches a color on or off.
     fn switch(self, color: &str, out: &mut Out) {
         if self.is_on {
             out.text(color);
         }
     }
 
-    /// Prints a heading, without a line's end.
     pub(crate) fn heading<D: Display>(self, text: &D, out: &mut Out) {
         self.switch(BOLD, out);
         write!(out, "{text}");
         self.switch(PLAIN, out);
     }
 
-    /// Prints what the checks of a table say.
     pub(crate) fn status(self, status: Status, out: &mut Out) {
         self.switch(if status.is_invalid() { RED } else { GREEN }, out);
         out.value(&status);

@@ -110,7 +110,6 @@ const ONE_VIEW: &str = "[--table SIG].. [--hex SIG].. | --get VALUE.. | --text [
      --extract DIR [--table SIG].. | [--check] --html FILE | --summary | --find | \
      --compare [--html FILE] | --check | --rules";
 
-/// Whether a signature is an RSDP's, of eight bytes.
 fn is_rsdp(signature: Signature) -> bool {
     signature.to_bytes() == *b"RSD "
 }
@@ -134,13 +133,11 @@ fn parsed<T>(option: &str, word: Option<&str>, parse: impl FnOnce(&str) -> Optio
     parse(word).map(Some).ok_or_else(|| Wrong::option(option, word))
 }
 
-/// The value that one of these words has.
 fn one_of<T: Copy>(option: &str, word: Option<&str>, values: [(&str, T); 3]) -> Result<T, Wrong> {
     let find = |word: &str| values.iter().find(|(name, _)| *name == word).map(|(_, value)| *value);
     Ok(parsed(option, word, find)?.unwrap_or(values[0].1))
 }
 
-/// The name that an option has, which has letters.
 fn name<'w>(option: &str, word: Option<&'w str>) -> Result<Option<&'w str>, Wrong> {
     match word {
         Some("") => Err(Wrong::option(option, "")),
@@ -224,7 +221,6 @@ impl<'w> Request<'w> {
         Ok(())
     }
 
-    /// Whether the RSDP is chosen, or a value in it.
     pub(crate) fn names_rsdp(&self) -> bool {
         self.choices.iter().any(|choice| choice.signature.is_some_and(is_rsdp))
             || self.wanted.iter().any(|(_, wanted)| is_rsdp(wanted.signature))

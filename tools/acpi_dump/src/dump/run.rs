@@ -89,7 +89,6 @@ fn print_words(words: &[&str], input: Option<&[u8]>, out: &mut Out, log: &mut Lo
     }
 }
 
-/// Prints what is requested.
 fn print_requested(request: &Request<'_>, input: Option<&[u8]>, out: &mut Out, log: &mut Log) -> Result<u8, Stop> {
     let rt = &HostRuntime::new();
     let (mut sources, storage) = (Files { host: HostSources::new(rt), input }, HostStorage::new(rt));
@@ -134,7 +133,6 @@ impl<'r> Run<'r> {
         gather(Global, names, self.request.reading, &mut self.sources, self.log)
     }
 
-    /// The name of the input, or of the first of several.
     pub(crate) fn name(&self) -> &'r str {
         self.request.inputs.first().copied().unwrap_or("/sys/firmware/acpi/tables")
     }
@@ -148,12 +146,10 @@ impl<'r> Run<'r> {
         self.request.arguments.json
     }
 
-    /// Prints why an input isn't shown.
     pub(crate) fn fail(&mut self, why: impl std::fmt::Display) -> Stop {
         fail(self.log, self.name(), &why)
     }
 
-    /// How files are saved.
     pub(crate) fn saving(&self) -> Saving<'r> {
         Saving { alloc: Global, is_forced: self.request.arguments.force, inputs: &self.request.inputs }
     }

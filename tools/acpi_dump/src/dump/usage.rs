@@ -6,7 +6,6 @@ use crate::prelude::*;
 /// What is wrong with arguments, as it is printed.
 pub(crate) struct Wrong(pub(crate) String);
 
-/// What the word of an option may be.
 fn usage_of(option: &str) -> &'static str {
     match option {
         "as" => "image | memory | text | table",
@@ -41,7 +40,6 @@ fn plain(text: &str) -> String {
 }
 
 impl Wrong {
-    /// The word of an option is wrong.
     pub(crate) fn option(option: &str, word: &str) -> Wrong {
         Wrong::value(option, word, usage_of(option))
     }
@@ -50,7 +48,6 @@ impl Wrong {
         Wrong(format!("acpi_dump: --{option}: {}\nusage: --{option} {usage}\n", plain(word)))
     }
 
-    /// A word or words that aren't an option's are wrong.
     pub(crate) fn words(words: &str, usage: &str) -> Wrong {
         Wrong(format!("acpi_dump: {}\nusage: acpi_dump {usage}\n", plain(words)))
     }

@@ -49,7 +49,6 @@ impl Run<'_> {
         Ok(self.strict_status(&entries))
     }
 
-    /// Prints what is requested of tables.
     fn print_entries(&mut self, entries: &[Entry<'_>]) -> Result<u8, Stop> {
         let (choices, is_chosen) = (&self.request.choices, self.request.view == View::Tables);
         let paths = &names_for(entries, choices);

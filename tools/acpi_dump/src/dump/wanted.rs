@@ -70,7 +70,6 @@ pub(crate) struct Finder<'f, S> {
 }
 
 impl<'f, S> Finder<'f, S> {
-    /// What looks for a value.
     pub(crate) fn new(wanted: Wanted<'f>, show: &'f mut S) -> Finder<'f, S> {
         Finder { wanted, depth: 0, entered: 0, is_found: false, show }
     }

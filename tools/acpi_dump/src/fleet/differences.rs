@@ -15,7 +15,6 @@ pub(super) struct Differing {
 }
 
 impl Differing {
-    /// What it is a difference of, without the values.
     pub(super) fn name(&self) -> String {
         if self.place.is_empty() { self.table.clone() } else { format!("{} {}", self.table, self.place) }
     }

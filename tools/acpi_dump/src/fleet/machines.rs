@@ -107,7 +107,6 @@ pub(super) fn read_machine(name: &str, most: u64) -> Result<Machine, String> {
     }
 }
 
-/// A table of a file, of which nothing is checked.
 fn unchecked(file: &TableFile) -> Entry<'_> {
     let place = file.address.map_or(Place::File(&file.name), Place::Address);
     Entry { place, sought: None, bytes: &file.bytes, status: Status::Valid }
@@ -139,7 +138,6 @@ impl Machine {
     }
 }
 
-/// The tables of a memory, below the first valid RSDP.
 fn of_memory<'i>(memory: &MemoryImage<'i>) -> Result<Entries<Entry<'i>>, AllocError> {
     let found = candidates(Global, memory)?;
     let addresses = starts(Global, &found, ebda_of(bytes_from(memory, 0x40e)))?;

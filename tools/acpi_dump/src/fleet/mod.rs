@@ -78,7 +78,6 @@ struct Fleet {
 }
 
 impl Fleet {
-    /// Adds a machine.
     fn add(&mut self, name: String, read: Result<Machine, String>, sums: &mut Sums) {
         let found = read.map(|machine| {
             let (of_machine, invalid) = sums.of(&machine);
@@ -101,14 +100,12 @@ impl Fleet {
     }
 }
 
-/// Prints why words are no command.
 fn usage(option: &str, why: &str) -> u8 {
     eprintln!("acpi_dump: --{option}: {why}");
     eprintln!("usage: --fleet INPUT.. [--base INPUT] [--alike] [--ignore FIELD].. [--json]");
     2
 }
 
-/// The status of a run that requests a fleet.
 pub(crate) fn run(arguments: &Arguments) -> u8 {
     if let Some(other) = arguments.names.iter().find(|name| !BESIDE.contains(&name.as_str())) {
         return usage(other, "it isn't for --fleet");

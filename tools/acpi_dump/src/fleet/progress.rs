@@ -32,7 +32,6 @@ impl Progress {
         let _ = write!(stderr(), "\r[{full}{rest}] {} of {}", self.done, self.count);
     }
 
-    /// Takes the line away.
     pub(super) fn end(&self) {
         if self.is_shown {
             let _ = write!(stderr(), "\r\x1b[K");

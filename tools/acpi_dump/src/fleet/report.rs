@@ -19,7 +19,6 @@ pub(super) enum Style {
 /// How many letters of a value a line has at most.
 const LONGEST: usize = 60;
 
-/// A text without what a terminal would obey.
 fn plain(text: &str) -> String {
     let mut out = Out::new(Global);
     for letter in text.chars() {
@@ -28,7 +27,6 @@ fn plain(text: &str) -> String {
     out.printed().unwrap_or("").to_string()
 }
 
-/// A value of a difference, cut to what fits a line.
 fn short(value: &str) -> String {
     let text = plain(value.trim_end());
     if text.chars().count() <= LONGEST { text } else { text.chars().take(LONGEST).collect::<String>() + ".." }
@@ -78,7 +76,6 @@ pub(super) fn print(
     Ok(base.is_some())
 }
 
-/// The name of a group's first machine.
 fn name_of<'f>(fleet: &'f Fleet, group: &Group) -> &'f str {
     &fleet.members[group.machines[0]].name
 }
@@ -101,7 +98,6 @@ fn differences_of(
     }
 }
 
-/// Prints a line for each machine.
 fn print_members(fleet: &Fleet, ranked: &[usize], out: &mut impl Write) -> Result<()> {
     let mut ranks = vec![0; ranked.len()];
     for (rank, group) in ranked.iter().enumerate() {
@@ -161,7 +157,6 @@ fn print_counts(counts: HashMap<String, usize>, base: &str, out: &mut impl Write
     Ok(())
 }
 
-/// A difference as an object.
 fn document_of(difference: &Differing) -> Value {
     let mut members = Map::new();
     members.insert("table".to_string(), json!(difference.table));
@@ -179,7 +174,6 @@ fn document_of(difference: &Differing) -> Value {
     Value::Object(members)
 }
 
-/// Prints a document for each machine of a group.
 fn print_documents(fleet: &Fleet, rank: usize, group: &Group, found: &[Differing], out: &mut impl Write) -> Result<()> {
     let differ: Value = found.iter().map(document_of).collect();
     for member in group.machines.iter().map(|machine| &fleet.members[*machine]) {

@@ -19,7 +19,6 @@ fn read_at_most(reader: impl Read, most: u64) -> Result<Bytes<u8>> {
     if bytes.len() as u64 > most { Err(ErrorKind::FileTooLarge.into()) } else { Ok(bytes) }
 }
 
-/// What compressed bytes were, and others as they are.
 fn unpacked(bytes: Bytes<u8>, most: u64) -> Result<Bytes<u8>> {
     if bytes.starts_with(GZIP) {
         return read_at_most(flate2::read::MultiGzDecoder::new(&bytes[..]), most);

@@ -33,6 +33,8 @@ pub enum Piece<'a> {
     Hex(u64),
     Digits(u64),
     Offset(u64),
+    /// A number in hexadecimal digits, at least so many.
+    Padded(u64, usize),
     /// HTML of this program.
     Markup(&'static str),
     Printed(&'a Html),
@@ -55,7 +57,6 @@ impl Html {
         self.0.clear();
     }
 
-    /// Adds markup.
     pub fn markup(&mut self, markup: &'static str) {
         self.0.push_str(markup);
     }
@@ -76,16 +77,10 @@ impl Html {
         }
     }
 
-    /// Adds the digits of a hexadecimal number, at least so many.
-    pub fn digits(&mut self, number: u64, width: usize) {
-        self.number(format_args!("{number:0width$x}"));
-    }
-
     fn number(&mut self, digits: std::fmt::Arguments<'_>) {
         self.0.write_fmt(digits).expect("a String is written");
     }
 
-    /// Adds other markup.
     pub fn append(&mut self, other: &Html) {
         self.0.push_str(&other.0);
     }
@@ -147,18 +142,17 @@ impl Html {
             }
             Piece::Decimal(number) => self.words("%", &[number]),
             Piece::Hex(number) => self.words("#", &[number]),
-            Piece::Digits(number) => self.digits(number, 0),
-            Piece::Offset(offset) => self.digits(offset, 4),
+            Piece::Digits(number) => self.number(format_args!("{number:x}")),
+            Piece::Offset(offset) => self.number(format_args!("{offset:04x}")),
+            Piece::Padded(number, width) => self.number(format_args!("{number:0width$x}")),
         }
     }
 }
 
-/// A text if something holds, or no letters.
 pub(super) fn word_if(holds: bool, text: &'static str) -> Piece<'static> {
     Piece::Text(if holds { text } else { "" })
 }
 
-/// A path, or the first digits of a value.
 fn first_digits(value: &str) -> Cow<'_, str> {
     match value.get(..DIGITS) {
         Some(front) if value.len() > DIGITS && !value.starts_with('\\') => Cow::Owned(format!("{front}..")),
@@ -172,8 +166,5 @@ fn first_words(text: &str, most: usize) -> &str {
         return text;
     }
     let front = text.get(..most).unwrap_or(text);
-    match front.rsplit_once(' ') {
-        Some((words, _)) => words.trim_end_matches([',', ' ']),
-        None => front,
-    }
+    front.rsplit_once(' ').map_or(front, |(words, _)| words.trim_end_matches([',', ' ']))
 }

@@ -4,6 +4,7 @@ use super::escape::Html;
 use super::escape::Piece::{Decimal, Hex, Letters, Text};
 use super::sheet::Sheet;
 use crate::check::rules::{Finding, Severity, counts_of};
+use std::ops::Range;
 
 /// Prints how much rules find in tables, and what: errors first, then warnings, then notes.
 pub(super) fn print_findings(findings: &[Finding], sheets: &[Sheet<'_>], out: &mut Html) {
@@ -19,10 +20,8 @@ pub(super) fn print_findings(findings: &[Finding], sheets: &[Sheet<'_>], out: &m
     }
     for severity in [Severity::Error, Severity::Warning, Severity::Note] {
         for (number, finding) in findings.iter().enumerate() {
-            if finding.rule.severity == severity
-                && let Some(sheet) = sheets.get(finding.table)
-            {
-                print_finding(number, finding, sheet, out);
+            if finding.rule.severity == severity {
+                print_finding(number, finding, &sheets[finding.table], out);
             }
         }
     }
@@ -53,15 +52,14 @@ fn print_finding(number: usize, finding: &Finding, sheet: &Sheet<'_>, out: &mut 
     )
 }
 
-/// Prints the findings between two numbers, which rules find in a field, after its row.
-pub(super) fn print_findings_of(findings: &[Finding], numbers: (usize, usize), out: &mut Html) {
-    for number in numbers.0..numbers.1 {
-        if let Some(finding) = findings.get(number) {
-            let word = Text(finding.rule.severity.word());
-            out.fill(
-                "<tr class=\"finding $\"><td><td colspan=\"3\"><b>$</b> $ <a href=\"#check-$\">$</a>\n",
-                &[word, word, Text(&finding.message), Decimal(number as u64), Text(finding.rule.id)],
-            );
-        }
+/// Prints the findings of these numbers, which rules find in a field, after its row.
+pub(super) fn print_findings_of(findings: &[Finding], numbers: Range<usize>, out: &mut Html) {
+    for number in numbers {
+        let Finding { rule, message, .. } = &findings[number];
+        let word = Text(rule.severity.word());
+        out.fill(
+            "<tr class=\"finding $\"><td><td colspan=\"3\"><b>$</b> $ <a href=\"#check-$\">$</a>\n",
+            &[word, word, Text(message), Decimal(number as u64), Text(rule.id)],
+        );
     }
 }

@@ -48,7 +48,6 @@ pub(super) fn print_front(source: Source<'_>, sheets: &[Sheet<'_>], has_drawing:
     out.fill(heading, &names)
 }
 
-/// Prints the link to a table.
 fn print_link(sheet: &Sheet<'_>, out: &mut Html) {
     let class = match sheet.standing {
         _ if sheet.entry.status.is_invalid() => " class=\"bad\"",
@@ -60,7 +59,6 @@ fn print_link(sheet: &Sheet<'_>, out: &mut Html) {
     out.fill("<a href=\"#$\"$>$</a>", &pieces)
 }
 
-/// Prints the end of a page.
 pub(super) fn print_end(out: &mut Html) {
     out.fill(END, &[Markup(SCRIPT)])
 }

@@ -8,12 +8,11 @@ use std::fmt::{self, Display, Formatter};
 #[derive(Clone, Copy)]
 pub struct Id {
     letters: [u8; 4],
-    number: u64,
+    number: usize,
     /// Whether the table is one of the first one of two inputs.
     pub(super) is_first: bool,
 }
 
-/// The signature that a table begins with, or should.
 pub(super) fn signature_of(entry: &Entry<'_>) -> Signature {
     let signature = entry.signature().or(entry.sought);
     signature.unwrap_or(own_signature(&[]))
@@ -21,23 +20,13 @@ pub(super) fn signature_of(entry: &Entry<'_>) -> Signature {
 
 /// The letters of a table's signature: `_` for what is no letter or digit.
 fn letters_of(entry: &Entry<'_>) -> [u8; 4] {
-    let mut letters = signature_of(entry).to_bytes();
-    for letter in &mut letters {
-        if !letter.is_ascii_alphanumeric() {
-            *letter = b'_';
-        }
-    }
-    letters
+    signature_of(entry).to_bytes().map(|letter| if letter.is_ascii_alphanumeric() { letter } else { b'_' })
 }
 
 impl Id {
-    /// The id of a table that comes after others.
     pub(super) fn of(entry: &Entry<'_>, before: &[Entry<'_>], is_first: bool) -> Id {
         let letters = letters_of(entry);
-        let mut number = 1u64;
-        for other in before {
-            number = number.saturating_add((letters_of(other) == letters) as u64);
-        }
+        let number = 1 + before.iter().filter(|other| letters_of(other) == letters).count();
         Id { letters, number, is_first }
     }
 }

@@ -9,7 +9,6 @@ use acpi_programs::input::entries::header_of;
 use acpi_programs::input::status::Status;
 use acpi_programs::walk::layouts::title_of;
 
-/// Prints the list of tables.
 pub(super) fn print_list(sheets: &[Sheet<'_>], out: &mut Html) {
     out.markup(
         "<section id=\"tables\"><h2>The tables <span class=\"tools\" hidden><button data-all=\"1\">Unfold all</button> \
@@ -26,7 +25,6 @@ pub(super) fn print_list(sheets: &[Sheet<'_>], out: &mut Html) {
     out.markup("</table></div></section>\n");
 }
 
-/// Prints the row of a table.
 fn print_row(sheet: &Sheet<'_>, out: &mut Html) {
     let class = if sheet.id.is_first { " class=\"del\"" } else { "" };
     let [badge, status, standing] = badges_of(sheet);
@@ -61,7 +59,6 @@ fn print_row(sheet: &Sheet<'_>, out: &mut Html) {
     }
 }
 
-/// Where a table is.
 pub(super) fn place_of<'p>(sheet: &Sheet<'p>) -> Piece<'p> {
     match sheet.entry.place {
         Place::Address(address) => Hex(address),

@@ -2,7 +2,8 @@
 
 use crate::check::rules::Finding;
 use crate::compare::Difference;
-use crate::compare::outline::{BYTES, Item, Side};
+use crate::compare::outline::{BYTES, Side};
+use std::ops::Range;
 
 /// How a field differs from the first of two inputs.
 #[derive(Clone, Copy)]
@@ -15,12 +16,11 @@ pub(super) enum Change {
 }
 
 /// The marks of a field.
-#[derive(Clone, Copy)]
 pub(super) struct Mark {
     /// The number of the field whose row shows it: bytes in a row with others are shown by the first ones.
     pub(super) row: usize,
-    /// Between which numbers its findings are among all.
-    pub(super) findings: (usize, usize),
+    /// The numbers of its findings among all.
+    pub(super) findings: Range<usize>,
     pub(super) change: Change,
 }
 
@@ -31,36 +31,28 @@ pub(super) struct Marks {
     pub(super) gone: Vec<(usize, Option<usize>)>,
 }
 
-/// How many findings are of tables before this one, or of it and of bytes before an offset.
-fn reach(findings: &[Finding], table: usize, end: u64) -> usize {
-    findings.partition_point(|finding| finding.table < table || finding.table == table && (finding.offset as u64) < end)
-}
-
 /// The marks of the table of this number by findings, which are in the order of the tables and of their offsets: each
 /// is that of the row of its byte. A run of bytes that no field covers has one row.
 pub(super) fn marks_of(side: Side<'_>, table: usize, findings: &[Finding]) -> Marks {
+    // How many findings are of tables before this one, or of it and of bytes before an offset.
+    let reach = |end: u64| findings.partition_point(|it| (it.table, it.offset as u64) < (table, end));
     let mut fields: Vec<Mark> = Vec::new();
-    let mut next = reach(findings, table, 0);
-    let mut row = 0usize;
+    let (mut next, mut row) = (reach(0), 0);
     for (place, item) in side.items.iter().enumerate() {
         let first = next;
-        let end = item.offset.saturating_add(item.length);
-        next = reach(findings, table, end).max(first);
-        match fields.get_mut(row) {
-            Some(mark) if item.name == BYTES && is_run(side, row, item) => mark.findings.1 = next,
-            _ => row = place,
+        next = reach(item.offset.saturating_add(item.length)).max(first);
+        // Bytes that no field covers follow others in a structure.
+        let begun = &side.items[row];
+        let is_run = place > 0 && item.name == BYTES && begun.name == BYTES && begun.part == item.part;
+        if is_run {
+            fields[row].findings.end = next;
+        } else {
+            row = place;
         }
-        fields.push(Mark { row, findings: (if row == place { first } else { next }, next), change: Change::Same });
+        let findings = if is_run { next..next } else { first..next };
+        fields.push(Mark { row, findings, change: Change::Same });
     }
     Marks { fields, gone: Vec::new() }
-}
-
-/// Whether bytes that no field covers follow others in a structure, those in the row of this number.
-fn is_run(side: Side<'_>, row: usize, item: &Item) -> bool {
-    match side.items.get(row) {
-        Some(first) => first.name == BYTES && first.part == item.part,
-        None => false,
-    }
 }
 
 impl Marks {
@@ -69,29 +61,12 @@ impl Marks {
         for found in differences {
             match found.place {
                 None => self.gone.push((found.part, found.was)),
-                Some(place) if found.name.is_empty() => self.add_structure(side, place),
-                Some(place) => {
-                    let change = match found.was {
-                        Some(was) => Change::From(was),
-                        None => Change::Added(0),
-                    };
-                    self.change(place, change)
+                // A structure that the first table lacks.
+                Some(part) if found.name.is_empty() => {
+                    side.places(part).for_each(|place| self.fields[place].change = Change::Added(part));
                 }
+                Some(place) => self.fields[place].change = found.was.map_or(Change::Added(0), Change::From),
             }
-        }
-    }
-
-    /// Marks the fields of a structure that the first table lacks.
-    fn add_structure(&mut self, side: Side<'_>, part: usize) {
-        for place in side.places(part) {
-            self.change(place, Change::Added(part));
-        }
-    }
-
-    /// Marks a field as one that differs so.
-    fn change(&mut self, place: usize, change: Change) {
-        if let Some(mark) = self.fields.get_mut(place) {
-            mark.change = change;
         }
     }
 }

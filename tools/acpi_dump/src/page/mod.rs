@@ -23,11 +23,11 @@ mod values;
 
 use crate::check::rules::Finding;
 use crate::compare::code::names_in;
-use crate::compare::outline::{Items, Side, items_of};
+use crate::compare::outline::{Items, items_of};
 use crate::compare::{differences, same_in};
 use crate::prelude::*;
 use escape::Piece::Printed;
-pub use escape::{Html, Piece};
+pub(crate) use escape::{Html, Piece};
 use findings::print_findings;
 use frame::{print_end, print_front};
 use ids::{Id, signature_of};
@@ -39,41 +39,22 @@ use table::print_table;
 
 /// The tables of an input, and the names of what they were read from.
 #[derive(Clone, Copy)]
-pub struct Given<'p> {
-    pub names: &'p [&'p str],
-    pub entries: &'p [Entry<'p>],
+pub(crate) struct Given<'p> {
+    pub(crate) names: &'p [&'p str],
+    pub(crate) entries: &'p [Entry<'p>],
 }
 
 /// What a page is made of.
 #[derive(Clone, Copy)]
-pub struct Source<'p> {
+pub(crate) struct Source<'p> {
     /// The input, or the second one of two.
-    pub input: Given<'p>,
+    pub(crate) input: Given<'p>,
     /// The input that it is compared with.
-    pub first: Option<Given<'p>>,
+    pub(crate) first: Option<Given<'p>>,
     /// The names of the fields that are left out of what differs.
-    pub ignored: &'p [&'p str],
+    pub(crate) ignored: &'p [&'p str],
     /// What rules find in the input.
-    pub findings: &'p [Finding],
-}
-
-impl<'p> Source<'p> {
-    /// The tables of the input that it is compared with.
-    fn old(self) -> &'p [Entry<'p>] {
-        if let Some(first) = self.first {
-            return first.entries;
-        }
-        &[]
-    }
-}
-
-/// The structures and fields of tables.
-fn outlines_of<'t>(entries: &[Entry<'t>]) -> Vec<Items<'t>> {
-    let mut outlines = Vec::new();
-    for entry in entries {
-        outlines.push(items_of(entry));
-    }
-    outlines
+    pub(crate) findings: &'p [Finding],
 }
 
 /// The tables of one input with their structures and fields.
@@ -85,87 +66,45 @@ struct Outlined<'p> {
     names: &'p Names<'p>,
 }
 
-/// Adds the sheets of an input's tables, compared with those of the other input. Of the first of two inputs only tables
-/// that the other one lacks are added.
-fn add_sheets<'p>(
-    source: Source<'p>,
-    own: Outlined<'p>,
-    other: Outlined<'p>,
-    is_first: bool,
-    sheets: &mut Vec<Sheet<'p>>,
-) {
+/// The sheets of an input's tables, compared with those of the other input. Of the first of two inputs only tables that
+/// the other one lacks have one.
+fn sheets_of<'p>(source: Source<'p>, own: Outlined<'p>, other: Outlined<'p>, is_first: bool) -> Vec<Sheet<'p>> {
+    let mut sheets = Vec::new();
     for (number, (entry, items)) in own.entries.iter().zip(own.outlines).enumerate() {
         let place = same_in(own.entries, number, other.entries);
         if is_first && place.is_some() {
             continue;
         }
-        let id = Id::of(entry, own.entries.get(..number).unwrap_or(&[]), is_first);
-        let mut sheet = sheet_of(source, own.names, entry, items.side(), id, number);
-        if let Some(place) = place
-            && let Some(old) = other.outlines.get(place)
-        {
-            compare_with(source, old.side(), &mut sheet);
-        }
-        sheets.push(sheet);
+        let side = items.side();
+        let mut marks = marks_of(side, number, if is_first { &[] } else { source.findings });
+        let standing = match place.map(|place| other.outlines[place].side()) {
+            Some(old) => {
+                marks.add(side, &differences(old, side, source.ignored));
+                if old.table == side.table { Standing::Same } else { Standing::Beside(old) }
+            }
+            None if source.first.is_some() => Standing::Only,
+            None => Standing::Alone,
+        };
+        let (id, signature) = (Id::of(entry, &own.entries[..number], is_first), signature_of(entry));
+        let (names, findings) = (own.names, source.findings);
+        sheets.push(Sheet { entry, id, signature, side, names, marks, findings, standing });
     }
-}
-
-/// The sheet of the table of this number of an input, without a comparison.
-fn sheet_of<'p>(
-    source: Source<'p>,
-    names: &'p Names<'p>,
-    entry: &'p Entry<'p>,
-    side: Side<'p>,
-    id: Id,
-    number: usize,
-) -> Sheet<'p> {
-    let findings = if id.is_first { &[] } else { source.findings };
-    let standing = if source.first.is_some() { Standing::Only } else { Standing::Alone };
-    Sheet {
-        entry,
-        id,
-        signature: signature_of(entry),
-        side,
-        names,
-        marks: marks_of(side, number, findings),
-        findings: source.findings,
-        standing,
-    }
-}
-
-/// Marks what differs in a table from that of the first input.
-fn compare_with<'p>(source: Source<'p>, old: Side<'p>, sheet: &mut Sheet<'p>) {
-    let found = differences(old, sheet.side, source.ignored);
-    sheet.marks.add(sheet.side, &found);
-    sheet.standing = if old.table == sheet.side.table { Standing::Same } else { Standing::Beside(old) };
-}
-
-/// Prints the page.
-pub fn print_page(source: Source<'_>, out: &mut Html) {
-    let outlines = outlines_of(source.input.entries);
-    let old_outlines = outlines_of(source.old());
-    let paths = names_in(source.input.entries);
-    let old_paths = names_in(source.old());
-    let names = granted(Names::new(Global, &paths));
-    let old_names = granted(Names::new(Global, &old_paths));
-    print_outlined(source, &outlines, &old_outlines, &names, &old_names, out)
+    sheets
 }
 
 /// Prints the page of the tables of the input, and of the first one's that aren't in it, by the structures and fields
 /// of both, and what names stand for in them.
-fn print_outlined<'p>(
-    source: Source<'p>,
-    outlines: &'p [Items<'p>],
-    old_outlines: &'p [Items<'p>],
-    names: &'p Names<'p>,
-    old_names: &'p Names<'p>,
-    out: &mut Html,
-) {
-    let new = Outlined { entries: source.input.entries, outlines, names };
-    let old = Outlined { entries: source.old(), outlines: old_outlines, names: old_names };
-    let mut sheets = Vec::new();
-    add_sheets(source, new, old, false, &mut sheets);
-    add_sheets(source, old, new, true, &mut sheets);
+pub(crate) fn print_page(source: Source<'_>, out: &mut Html) {
+    let old = source.first.map_or(&[][..], |first| first.entries);
+    let [new, old] = [source.input.entries, old].map(|entries| {
+        let outlines: Vec<_> = entries.iter().map(items_of).collect();
+        (entries, outlines, names_in(entries))
+    });
+    let [names, old_names] = [&new, &old].map(|(.., paths)| granted(Names::new(Global, paths)));
+    let new = Outlined { entries: new.0, outlines: &new.1, names: &names };
+    let old = Outlined { entries: old.0, outlines: &old.1, names: &old_names };
+    let mut sheets = sheets_of(source, new, old, false);
+    sheets.extend(sheets_of(source, old, new, true));
     let mut machine = Html::default();
     print_machine(&sheets, &mut machine);
     print_front(source, &sheets, !machine.is_empty(), out);
@@ -175,8 +114,6 @@ fn print_outlined<'p>(
     }
     print_findings(source.findings, &sheets, out);
     print_list(&sheets, out);
-    for sheet in sheets.iter() {
-        print_table(sheet, &sheets, out);
-    }
+    sheets.iter().for_each(|sheet| print_table(sheet, &sheets, out));
     print_end(out);
 }

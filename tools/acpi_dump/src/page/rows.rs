@@ -52,7 +52,7 @@ pub(super) fn print_rows<'p>(sheet: &Sheet<'p>, sheets: &[Sheet<'p>], out: &mut 
     for (place, item) in sheet.side.items.iter().enumerate() {
         rows.begin_parts(place, item);
         rows.item(place, item);
-        rows.code(item);
+        print_code(sheet, item, rows.out);
     }
     rows.close_to(0);
     rows.end();
@@ -68,17 +68,14 @@ impl Rows<'_, '_, '_> {
         }
     }
 
-    /// Ends the rows that have begun.
     fn end(&mut self) {
-        self.out.markup(self.end);
-        self.end = "";
+        self.out.markup(std::mem::take(&mut self.end));
     }
 
     /// Begins the fold of the header, which is open if the table is invalid or something in it is marked.
     fn begin_header(&mut self, header: &SdtHeader) {
-        let sheet = self.sheet;
-        let marks = sheet.classes(0, HEADER);
-        let is_open = marks.starts_with(" hit") || sheet.entry.status.is_invalid();
+        let marks = self.sheet.classes(0, HEADER);
+        let is_open = marks.starts_with(" hit") || self.sheet.entry.status.is_invalid();
         self.out.fill(
             "<details class=\"s hd$\"$><summary data-o=\"0\" data-n=\"24\"><span>0000</span> Header <small>$ $</small>\
              </summary>\n<table class=\"fl\"><thead><tr><th scope=\"col\">Offset<th scope=\"col\">Field\
@@ -91,22 +88,17 @@ impl Rows<'_, '_, '_> {
     /// Begins the folds of the structures that begin with the item of this number, but of objects only if others are in
     /// them, and ends those that ended before it.
     fn begin_parts(&mut self, place: usize, item: &Item) {
-        let sheet = self.sheet;
-        let parts = sheet.side.parts;
-        let mut fold = item.part;
-        for number in self.next..parts.len() {
-            match parts.get(number) {
-                Some(part) if part.first > place => break,
-                Some(part) if part.is_row() => fold = part.parent,
-                Some(part) => {
-                    self.close_to(part.parent);
-                    self.begin(number, part);
-                }
-                None => break,
+        let (parts, mut fold) = (self.sheet.side.parts, item.part);
+        while let Some(part) = parts.get(self.next).filter(|part| part.first <= place) {
+            if part.is_row() {
+                fold = part.parent;
+            } else {
+                self.close_to(part.parent);
+                self.begin(self.next, part);
             }
-            self.next = number + 1;
+            self.next += 1;
         }
-        self.close_to(fold)
+        self.close_to(fold);
     }
 
     /// Begins the fold of a structure, and before it that of a row of structures if it is the first of many.
@@ -143,53 +135,33 @@ impl Rows<'_, '_, '_> {
     /// Begins the fold of a row of structures of one name, if these are many from this one on.
     fn begin_group(&mut self, number: usize, part: &Part) {
         let sheet = self.sheet;
-        let (mut count, mut last, mut end) = (0usize, number, part.offset);
-        let mut has_changes = false;
-        for place in number..sheet.side.parts.len() {
-            match sheet.side.parts.get(place) {
-                Some(other) if other.parent == part.parent && other.name == part.name && !other.is_row() => {
-                    count += 1;
-                    last = place;
-                    end = other.offset.saturating_add(other.length);
-                    has_changes |= sheet.fold(place).has_changes;
-                }
-                Some(other) if other.parent >= number => {}
-                _ => break,
-            }
-        }
-        if count < MANY {
+        let is_like = |other: &Part| other.parent == part.parent && other.name == part.name && !other.is_row();
+        let row = sheet.side.parts.iter().enumerate().skip(number);
+        let row = row.take_while(|(_, other)| is_like(other) || other.parent >= number);
+        let row: Vec<_> = row.filter(|(_, other)| is_like(other)).collect();
+        if row.len() < MANY {
             return;
         }
+        let (last, end) = row[row.len() - 1];
         self.group = last;
+        let has_changes = row.iter().any(|(place, _)| sheet.fold(*place).has_changes);
+        let (start, end) = (Hex(part.offset), Hex(end.offset.saturating_add(end.length).saturating_sub(1)));
         self.out.fill(
             "<details class=\"g$\"><summary>$ <b>×$</b> <small>$ to $</small></summary>\n",
-            &[
-                word_if(has_changes, " chg"),
-                Text(part.name),
-                Decimal(count as u64),
-                Hex(part.offset),
-                Hex(end.saturating_sub(1)),
-            ],
-        )
+            &[word_if(has_changes, " chg"), Text(part.name), Decimal(row.len() as u64), start, end],
+        );
     }
 
     /// Ends the folds of structures up to that of one that they are in.
     fn close_to(&mut self, part: usize) {
-        let sheet = self.sheet;
-        for _ in 0..self.open {
-            if self.open == part {
-                break;
-            }
+        while self.open != part && self.open != 0 {
             self.end();
             self.out.markup("</details>\n");
             if self.open == self.group {
                 self.out.markup("</details>\n");
                 self.group = 0;
             }
-            self.open = match sheet.side.parts.get(self.open) {
-                Some(inner) => inner.parent,
-                None => 0,
-            };
+            self.open = self.sheet.side.parts[self.open].parent;
         }
     }
 
@@ -206,64 +178,35 @@ impl Rows<'_, '_, '_> {
         self.start();
         self.begin_row(item, mark);
         if item.name == BYTES {
-            let words = "<th scope=\"row\">not decoded<td><td>% bytes\n";
-            let length = self.length(place);
-            self.out.words(words, &[length])
+            let row = sheet.side.items[place..].iter().zip(place..);
+            let length = row.take_while(|(_, number)| sheet.mark(*number).row == place).map(|(item, _)| item.length);
+            self.out.words("<th scope=\"row\">not decoded<td><td>% bytes\n", &[length.sum()]);
         } else if let Some((old, was)) = sheet.before(mark) {
-            print_change(old, was, sheet.side, item, self.out)
+            print_change(old, was, sheet.side, item, self.out);
         } else if let Some(part) = structure_of(sheet.signature, sheet.side, item) {
-            let link = sheet.link(part.offset);
-            print_reference(sheet.side, item, &part, link, self.out)
+            print_reference(sheet.side, item, part, sheet.link(part.offset), self.out);
         } else {
-            let target = self.target_of(item);
-            print_value(sheet.side, item, target, self.out)
+            print_value(sheet.side, item, self.target_of(item), self.out);
         }
-        print_findings_of(sheet.findings, mark.findings, self.out)
-    }
-
-    /// Prints the operations of the object that an item is, if that is a method.
-    fn code(&mut self, item: &Item) {
-        print_code(self.sheet, item, self.out)
+        print_findings_of(sheet.findings, mark.findings.clone(), self.out);
     }
 
     /// The table that a field has the address of, if it is on the page.
     fn target_of(&self, item: &Item) -> Option<ids::Id> {
-        let table = self.sheet.entry.bytes;
-        let address = number_at(table, size(item.offset), size(item.length));
+        let address = number_at(self.sheet.entry.bytes, size(item.offset), size(item.length));
         let is_number = self.sheet.side.digits(item).starts_with("0x");
         if item.length < 4 || address == 0 || !is_number {
             return None;
         }
-        for sheet in self.sheets {
-            if !sheet.id.is_first && sheet.entry.place.address() == Some(address) {
-                return Some(sheet.id);
-            }
-        }
-        None
-    }
-
-    /// How many bytes that no field covers are in a row.
-    fn length(&self, row: usize) -> u64 {
-        let sheet = self.sheet;
-        let mut length = 0u64;
-        for number in row..sheet.side.items.len() {
-            match sheet.side.items.get(number) {
-                Some(item) if sheet.mark(number).row == row => {
-                    length += item.length;
-                }
-                _ => break,
-            }
-        }
-        length
+        let is_there = |it: &&Sheet<'_>| !it.id.is_first && it.entry.place.address() == Some(address);
+        self.sheets.iter().find(is_there).map(|sheet| sheet.id)
     }
 
     /// Prints what a row begins with: its id, its marks and its offset.
-    fn begin_row(&mut self, item: &Item, mark: Mark) {
-        let sheet = self.sheet;
-        let offset = item.offset;
+    fn begin_row(&mut self, item: &Item, mark: &Mark) {
+        let (sheet, offset) = (self.sheet, item.offset);
         let id = Id(sheet.id, Some(offset));
-        let start = if item.length > 0 { "<tr id=\"$\"" } else { "<tr" };
-        self.out.fill(start, &[id]);
+        self.out.fill(if item.length > 0 { "<tr id=\"$\"" } else { "<tr" }, &[id]);
         if item.name == MALFORMED {
             return self.out.fill(" class=\"wrong\"><td>$", &[Offset(offset)]);
         }
@@ -272,30 +215,28 @@ impl Rows<'_, '_, '_> {
             Change::Added(_) => " new",
             Change::From(_) => " chg",
         };
-        let found = if mark.findings.0 < mark.findings.1 { sheet.classes(offset, item.length.max(1)) } else { "" };
+        let found = if mark.findings.is_empty() { "" } else { sheet.classes(offset, item.length.max(1)) };
         self.out.fill(
             " class=\"f$$$\"><td><a href=\"#$\">$</a>",
             &[Digits(offset), Text(change), Text(found), id, Offset(offset)],
-        )
+        );
     }
 
     /// Prints the structures and fields that only the table of the first input has.
     fn gone(&mut self) {
-        let sheet = self.sheet;
-        let Standing::Beside(old) = sheet.standing else {
+        let Standing::Beside(old) = self.sheet.standing else {
             return;
         };
-        for (part, field) in sheet.marks.gone.iter() {
+        for (part, place) in &self.sheet.marks.gone {
             self.start();
-            if let Some(item) = old.item(*field) {
+            if let Some(item) = old.item(*place) {
                 self.out.fill(
                     "<tr class=\"del\"><td>$<th scope=\"row\">$<td><del>$</del><td><div><del>$</del></div>\n",
                     &[Offset(item.offset), Name(item), Value(old.digits(item)), Text(old.meaning(item))],
-                )
+                );
             } else {
-                let path = old.path_of(*part);
                 let row = "<tr class=\"del\"><td>$<th scope=\"row\"><del>$</del><td><td>only in the first\n";
-                self.out.fill(row, &[Offset(old.parts[*part].offset), Text(&path)])
+                self.out.fill(row, &[Offset(old.parts[*part].offset), Text(&old.path_of(*part))]);
             }
         }
         self.end();

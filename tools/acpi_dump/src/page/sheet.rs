@@ -68,53 +68,37 @@ impl<'p> Sheet<'p> {
     }
 
     /// The marks of the field that has this number.
-    pub(super) fn mark(&self, place: usize) -> Mark {
-        self.marks.fields.get(place).copied().unwrap_or(Mark { row: place, findings: (0, 0), change: Change::Same })
+    pub(super) fn mark(&self, place: usize) -> &Mark {
+        &self.marks.fields[place]
     }
 
     /// What the first input has in place of a field with these marks, if that differs: its table, and the field there.
-    pub(super) fn before(&self, mark: Mark) -> Option<(Side<'p>, &'p Item)> {
+    pub(super) fn before(&self, mark: &Mark) -> Option<(Side<'p>, &'p Item)> {
         match (mark.change, self.standing) {
-            (Change::From(was), Standing::Beside(old)) => Some((old, old.items.get(was)?)),
+            (Change::From(was), Standing::Beside(old)) => Some((old, &old.items[was])),
             _ => None,
         }
     }
 
     /// The marks of the structure that has this number.
     pub(super) fn fold(&self, number: usize) -> Fold {
-        let mut fold = Fold { has_findings: false, has_changes: false, is_added: false };
-        for place in self.side.places(number) {
-            let mark = self.mark(place);
-            fold.has_findings |= mark.findings.0 < mark.findings.1;
-            fold.has_changes |= !matches!(mark.change, Change::Same);
-            fold.is_added |= matches!(mark.change, Change::Added(part) if part == number);
+        let marks = &self.marks.fields[self.side.places(number)];
+        Fold {
+            has_findings: marks.iter().any(|mark| !mark.findings.is_empty()),
+            has_changes: marks.iter().any(|mark| !matches!(mark.change, Change::Same)),
+            is_added: marks.iter().any(|mark| matches!(mark.change, Change::Added(part) if part == number)),
         }
-        fold
     }
 
     /// The number of the first field that ends after an offset.
-    pub(super) fn field_at(&self, offset: u64) -> usize {
-        let (mut low, mut high) = (0usize, self.side.items.len());
-        for _ in 0..64 {
-            if high <= low {
-                break;
-            }
-            let middle = low + (high - low) / 2;
-            match self.side.items.get(middle) {
-                Some(item) if item.offset.saturating_add(item.length) <= offset => low = middle + 1,
-                _ => high = middle,
-            }
-        }
-        low
+    fn field_at(&self, offset: u64) -> usize {
+        self.side.items.partition_point(|item| item.offset.saturating_add(item.length) <= offset)
     }
 
     /// The id of the row of a byte: that of the table if no row has it.
     pub(super) fn link(&self, offset: u64) -> Piece<'static> {
-        let row = self.mark(self.field_at(offset)).row;
-        match self.side.items.get(row) {
-            Some(item) => Piece::Id(self.id, Some(item.offset)),
-            None => Piece::Id(self.id, None),
-        }
+        let mark = self.marks.fields.get(self.field_at(offset));
+        Piece::Id(self.id, mark.map(|mark| self.side.items[mark.row].offset))
     }
 
     /// The classes that what is shown of `length` bytes of the table, from an offset on, has after its own: ` hit` and
@@ -128,45 +112,23 @@ impl<'p> Sheet<'p> {
     pub(super) fn seen(&self, offset: u64, length: u64, before: Seen) -> Seen {
         let end = offset.saturating_add(length);
         let (mut worst, mut has_changes) = before;
-        let is_other = self.is_other(offset, length);
-        for place in self.field_at(offset)..self.side.items.len() {
-            let item = match self.side.items.get(place) {
-                Some(item) if item.offset < end => item,
-                _ => break,
-            };
-            let mark = self.mark(place);
-            let is_whole = item.offset >= offset && item.offset.saturating_add(item.length) <= end;
-            let is_changed = !matches!(mark.change, Change::Same);
-            has_changes |= is_changed && (is_whole || is_other);
-            worst = worst.max(self.worst_of(mark, is_whole, offset, end));
-        }
-        (worst, has_changes)
-    }
-
-    /// Whether `length` bytes from an offset on aren't the ones that the first input has there.
-    fn is_other(&self, offset: u64, length: u64) -> bool {
-        match self.standing {
+        let is_other = match self.standing {
             Standing::Beside(old) => old.bytes(offset, length) != self.side.bytes(offset, length),
             _ => true,
+        };
+        let fields = self.side.items.iter().zip(&self.marks.fields).skip(self.field_at(offset));
+        for (item, mark) in fields.take_while(|(item, _)| item.offset < end) {
+            let is_whole = item.offset >= offset && item.offset.saturating_add(item.length) <= end;
+            has_changes |= !matches!(mark.change, Change::Same) && (is_whole || is_other);
+            let findings = &self.findings[mark.findings.clone()];
+            let seen = findings.iter().filter(|it| is_whole || (offset..end).contains(&(it.offset as u64)));
+            worst = seen.map(|it| it.rule.severity as usize + 1).fold(worst, usize::max);
         }
-    }
-
-    /// The worst severity of the findings of a field, or of the ones between two offsets if the field isn't all there.
-    fn worst_of(&self, mark: Mark, is_whole: bool, offset: u64, end: u64) -> usize {
-        let (first, last) = mark.findings;
-        let mut worst = 0usize;
-        for finding in self.findings.get(first..last).unwrap_or(&[]) {
-            let at = finding.offset as u64;
-            if is_whole || offset <= at && at < end {
-                worst = worst.max(finding.rule.severity as usize + 1);
-            }
-        }
-        worst
+        (worst, has_changes)
     }
 }
 
 /// The classes of what was seen.
-pub(super) fn classes_of(seen: Seen) -> &'static str {
-    let [same, changed] = CLASSES.get(seen.0).copied().unwrap_or(["", " chg"]);
-    if seen.1 { changed } else { same }
+pub(super) fn classes_of((worst, has_changes): Seen) -> &'static str {
+    CLASSES[worst][usize::from(has_changes)]
 }

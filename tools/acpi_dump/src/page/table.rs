@@ -12,7 +12,6 @@ use acpi_programs::walk::layouts::title_of;
 /// From how many bytes on a table is folded.
 const LONG: usize = 4096;
 
-/// Prints the section of a table.
 pub(super) fn print_table<'p>(sheet: &Sheet<'p>, sheets: &[Sheet<'p>], out: &mut Html) {
     print_beginning(sheet, out);
     print_rows(sheet, sheets, out);
@@ -56,13 +55,9 @@ fn print_beginning(sheet: &Sheet<'_>, out: &mut Html) {
             standing,
         ],
     );
-    let mut count = 0usize;
-    for mark in sheet.marks.fields.iter() {
-        count += mark.findings.1.saturating_sub(mark.findings.0);
-    }
+    let count: usize = sheet.marks.fields.iter().map(|mark| mark.findings.len()).sum();
     if count > 0 {
-        let words = " <span class=\"warn\">findings: %</span>";
-        out.words(words, &[count as u64]);
+        out.words(" <span class=\"warn\">findings: %</span>", &[count as u64]);
     }
     let length = Decimal(sheet.entry.bytes.len() as u64);
     out.fill("<small>$ · $ bytes", &[place_of(sheet), length]);

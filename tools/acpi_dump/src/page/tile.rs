@@ -26,7 +26,6 @@ pub(super) struct Tile {
 }
 
 impl Tile {
-    /// A tile without boxes.
     pub(super) fn new(columns: u64) -> Tile {
         Tile { columns, text: Html::default(), title: Html::default(), boxes: Html::default(), x: 0, y: 0 }
     }
@@ -82,7 +81,6 @@ impl Tile {
         }
     }
 
-    /// Prints the tile after its title.
     pub(super) fn print(self, out: &mut Html) {
         let height = Decimal(self.y + HEIGHT);
         out.fill(

@@ -6,44 +6,28 @@ use super::escape::{Piece, word_if};
 use super::ids;
 use crate::compare::outline::{BYTES, Item, MALFORMED, Part, Side};
 use crate::prelude::*;
-use acpi_programs::rattle::Pieces;
-use acpi_programs::walk::language::next_word;
 
 /// From how many letters on a meaning is in a box of a few lines.
 const LONG: usize = 240;
 
-/// The fields that have the offset of a structure of their table, a line for each signature.
-const REFERENCES: &str = "\
-IORT Output Reference|Node reference
-PPTT Parent|Next Level of Cache|Private resource
-RHCT Offset
-VIOT Output node";
-
 /// Whether a field of a table has the offset of a structure of it.
 fn is_reference(signature: Signature, name: &str) -> bool {
-    let letters = signature.to_bytes();
-    for line in REFERENCES.pieces('\n') {
-        let (table, names) = next_word(line);
-        if table.as_bytes() == letters.as_slice() {
-            return names.pieces('|').any(|it| it == name);
-        }
-    }
-    false
+    matches!(
+        (&signature.to_bytes(), name),
+        (b"IORT", "Output Reference" | "Node reference")
+            | (b"PPTT", "Parent" | "Next Level of Cache" | "Private resource")
+            | (b"RHCT", "Offset")
+            | (b"VIOT", "Output node")
+    )
 }
 
 /// The structure of a table whose offset a field is, if it is one's.
-pub(super) fn structure_of(signature: Signature, side: Side<'_>, item: &Item) -> Option<Part> {
+pub(super) fn structure_of<'p>(signature: Signature, side: Side<'p>, item: &Item) -> Option<&'p Part> {
     if !is_reference(signature, item.name) {
         return None;
     }
     let offset = number_at(side.table, size(item.offset), size(item.length));
-    let parts = side.parts;
-    for part in parts {
-        if part.offset == offset && offset > 0 {
-            return Some(*part);
-        }
-    }
-    None
+    side.parts.iter().find(|part| part.offset == offset && offset > 0)
 }
 
 /// Prints the name and the value of a field, and the structure whose offset it is, which leads to that.
@@ -51,7 +35,7 @@ pub(super) fn print_reference<'p>(side: Side<'p>, item: &'p Item, part: &'p Part
     out.fill(
         "<th scope=\"row\">$<td>$<td><a href=\"#$\">$ at $</a>\n",
         &[Name(item), Value(side.digits(item)), link, Text(part.name), Hex(part.offset)],
-    )
+    );
 }
 
 /// Prints the name, the value and the meaning of a field. The value leads to a table if it is the address of one.
@@ -63,21 +47,19 @@ pub(super) fn print_value(side: Side<'_>, item: &Item, target: Option<ids::Id>, 
         None => out.fill("$", &[value]),
     }
     let meaning = side.meaning(item);
-    let cell = if meaning.len() > LONG { "<td><div>$</div>\n" } else { "<td>$\n" };
-    out.fill(cell, &[Text(meaning)])
+    out.fill(if meaning.len() > LONG { "<td><div>$</div>\n" } else { "<td>$\n" }, &[Text(meaning)]);
 }
 
 /// Prints the name, the value and the meaning of a field, each with what the first input has, if that differs.
 pub(super) fn print_change(old: Side<'_>, was: &Item, side: Side<'_>, item: &Item, out: &mut Html) {
-    let (old_digits, digits) = (old.digits(was), side.digits(item));
-    let (meant, meaning) = (old.meaning(was), side.meaning(item));
-    let (is_value, is_meaning) = (old_digits == digits, meant == meaning);
+    let ((old_digits, digits), (meant, meaning)) =
+        ((old.digits(was), side.digits(item)), (old.meaning(was), side.meaning(item)));
     out.fill("<th scope=\"row\">$<td>", &[Name(item)]);
-    print_changed(Value(old_digits), Value(digits), is_value, out);
+    print_changed(Value(old_digits), Value(digits), old_digits == digits, out);
     out.markup("<td><div>");
-    print_changed(Text(meant), Text(meaning), is_meaning, out);
-    let is_hidden = is_value && is_meaning;
-    out.markup(if is_hidden { " other bytes</div>\n" } else { "</div>\n" })
+    print_changed(Text(meant), Text(meaning), meant == meaning, out);
+    let is_hidden = (old_digits, meant) == (digits, meaning);
+    out.markup(if is_hidden { " other bytes</div>\n" } else { "</div>\n" });
 }
 
 /// Prints a text, after the one of the first input unless it is the same.
@@ -87,23 +69,18 @@ fn print_changed(was: Piece<'_>, is: Piece<'_>, is_same: bool, out: &mut Html) {
 
 /// Prints the first fields that tell of a folded structure what it is, or the path of an object.
 pub(super) fn print_digest(side: Side<'_>, number: usize, part: &Part, out: &mut Html) {
-    let mut count = 0usize;
-    for item in side.items_in(number) {
-        if item.part == number && tells(item) && count < 4 {
-            let meaning = side.meaning(item);
-            let value =
-                if meaning.is_empty() || part.own.is_some() { Value(side.digits(item)) } else { Words(meaning, 48) };
-            let name = if part.own.is_some() { "" } else { item.name };
-            let pieces = [word_if(count > 0, ", "), Text(name), value];
-            out.fill("$$ $", &pieces);
-            count += 1;
-        }
+    let told = side.items_in(number).iter().filter(|item| item.part == number && tells(item));
+    for (count, item) in told.take(4).enumerate() {
+        let meaning = side.meaning(item);
+        let is_value = meaning.is_empty() || part.own.is_some();
+        let value = if is_value { Value(side.digits(item)) } else { Words(meaning, 48) };
+        let name = if part.own.is_some() { "" } else { item.name };
+        out.fill("$$ $", &[word_if(count > 0, ", "), Text(name), value]);
     }
 }
 
 /// Whether a field tells of a structure what it is.
 fn tells(item: &Item) -> bool {
     let is_front = item.within < 5 && matches!(item.name, "Type" | "Length" | "Revision");
-    let is_left_out = item.name == BYTES || item.name == MALFORMED;
-    !is_front && !is_left_out && !item.name.starts_with("Reserved")
+    !is_front && item.name != BYTES && item.name != MALFORMED && !item.name.starts_with("Reserved")
 }

@@ -81,13 +81,11 @@ impl Facts {
         }
     }
 
-    /// Adds a member that no line has.
     pub(crate) fn member(&mut self, name: &'static str, fact: Fact) -> &mut Facts {
         self.object().insert(Cow::Borrowed(name), fact);
         self
     }
 
-    /// Adds an item of a member that is a list.
     pub(crate) fn item(&mut self, name: &'static str, fact: Fact) -> &mut Facts {
         let list = self.object().entry(Cow::Borrowed(name)).or_insert_with(|| Fact::List(Vec::new()));
         if let Fact::List(list) = list {
@@ -96,7 +94,6 @@ impl Facts {
         self
     }
 
-    /// Adds words that are no member.
     pub(crate) fn text(&mut self, words: impl Display) -> &mut Facts {
         write!(self.lines, "{words}").expect("a String is written");
         self
@@ -107,7 +104,6 @@ impl Facts {
         self.text(number).member(name, Fact::Number(number))
     }
 
-    /// Adds a number in hexadecimal digits.
     pub(crate) fn hex(&mut self, name: &'static str, number: impl Into<u64>) -> &mut Facts {
         let digits = wide(number.into());
         self.text(&digits).member(name, Fact::Text(digits))
@@ -118,12 +114,10 @@ impl Facts {
         self.text(&text).member(name, Fact::Text(text))
     }
 
-    /// Adds a text as it is.
     pub(crate) fn shown_as(&mut self, name: &'static str, text: String) -> &mut Facts {
         self.text(&text).member(name, Fact::Text(text))
     }
 
-    /// Adds a code by what it means, if that is known.
     pub(crate) fn code(&mut self, name: &'static str, code: impl Into<u64>, meaning: impl Display) -> &mut Facts {
         let meaning = meaning.to_string();
         self.text(&meaning).member(name, Fact::Number(code.into()));
@@ -133,19 +127,16 @@ impl Facts {
         self
     }
 
-    /// Adds a number of bytes.
     pub(crate) fn size(&mut self, name: &'static str, bytes: u64) -> &mut Facts {
         let (size, unit) = size_of(bytes);
         self.text(format_args!("{size} {unit}")).member(name, Fact::Text(wide(bytes)))
     }
 
-    /// Adds where a register is.
     pub(crate) fn register(&mut self, base: &GenericAddress) -> &mut Facts {
         let space = base.address_space;
         self.code("space", space.code(), format_args!("{space:?}")).text(" ").hex("address", base.address)
     }
 
-    /// Adds why a part isn't known.
     pub(crate) fn refused(&mut self, part: &'static str, refusal: AcpiError) {
         self.next("not_known").shown("part", part).text("\tnot known: ").shown("error", refusal);
     }

@@ -4,7 +4,6 @@ use super::facts::{Fact, Facts};
 use crate::prelude::*;
 use zacpi::arm::gic::GicModel;
 
-/// Adds the parts of a GIC, the processors first.
 pub(super) fn add_gic(facts: &mut Facts, gic: &GicModel<Global>) {
     let processors = gic.cpu_interfaces.as_slice();
     facts.one("processor_counts").text("processors\t").number("total", processors.len() as u64);

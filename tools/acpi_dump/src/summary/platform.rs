@@ -16,14 +16,12 @@ use zacpi::{AcpiHandler, AcpiTables, HpetInfo, PciConfigRegions, PlatformInfo};
 /// How many ticks of the PM timer are in a second (section 4.8.3.3).
 const PM_TIMER_FREQUENCY: u64 = 3_579_545;
 
-/// Adds why a part isn't known, unless it isn't there.
 fn add_unless_missing(facts: &mut Facts, name: &'static str, refusal: AcpiError) {
     if !matches!(refusal, AcpiError::TableMissing(_)) {
         facts.refused(name, refusal);
     }
 }
 
-/// Adds the facts of a machine's tables.
 pub(crate) fn add_facts<H: AcpiHandler>(tables: &AcpiTables<'_, H>, facts: &mut Facts) {
     let srat = &tables.find_table::<Srat>();
     let srat = srat.as_ref().map_or(&[][..], |srat| srat.bytes());
@@ -77,7 +75,6 @@ fn add_other<H: AcpiHandler>(tables: &AcpiTables<'_, H>, refusal: AcpiError, sra
     facts.refused("platform", refusal);
 }
 
-/// Adds the processors and the interrupts.
 fn add_model(
     facts: &mut Facts,
     model: &InterruptModel<Global>,
@@ -99,7 +96,6 @@ fn add_model(
     }
 }
 
-/// Adds the parts of the platform.
 fn add_platform(facts: &mut Facts, platform: &PlatformInfo<Global>, srat: &[u8]) {
     let profile = platform.power_profile;
     facts.one("power").text("profile\t").code("profile", profile.code(), format_args!("{profile:?}"));
@@ -140,7 +136,6 @@ fn add_apic(facts: &mut Facts, apic: &Apic<Global>) {
     }
 }
 
-/// Adds what signals an interrupt.
 fn add_signal(facts: &mut Facts, polarity: Polarity, trigger: TriggerMode) {
     let of_polarity = match polarity {
         Polarity::SameAsBus => "polarity of the bus",
@@ -156,7 +151,6 @@ fn add_signal(facts: &mut Facts, polarity: Polarity, trigger: TriggerMode) {
     facts.text(", ").code("trigger", trigger.code(), of_trigger);
 }
 
-/// Adds where an ISA interrupt comes.
 fn add_isa(facts: &mut Facts, apic: &Apic<Global>, irq: u8) {
     facts.next("isa_interrupts").text("ISA interrupt ").number("irq", irq).text("\t");
     let Some(isa) = apic.isa_interrupt(irq) else {
@@ -171,7 +165,6 @@ fn add_isa(facts: &mut Facts, apic: &Apic<Global>, irq: u8) {
     add_signal(facts, isa.polarity, isa.trigger_mode);
 }
 
-/// Adds the high precision event timers.
 fn add_hpet(facts: &mut Facts, info: &HpetInfo) {
     let bits = if info.main_counter_is_64bits() { 64u64 } else { 32 };
     facts
@@ -184,7 +177,6 @@ fn add_hpet(facts: &mut Facts, info: &HpetInfo) {
     facts.text(" comparators, periods of ").number("minimum_ticks", info.clock_tick_unit).text(" ticks or more");
 }
 
-/// Adds the serial console.
 fn add_console(facts: &mut Facts, console: &Spcr) {
     let base = match console.base_address() {
         None => {

@@ -20,7 +20,6 @@ fn domain_in(shares: &[Share], id: u32) -> Option<u32> {
 }
 
 impl Placed<'_> {
-    /// Whether another one comes next, and is else alike.
     fn is_before(&self, next: &Placed<'_>) -> bool {
         let (own, other) = (self.processor, next.processor);
         other.state == own.state
@@ -30,7 +29,6 @@ impl Placed<'_> {
     }
 }
 
-/// Adds processors that follow each other.
 fn add_alike(facts: &mut Facts, first: &Placed<'_>, last: &Placed<'_>) {
     let range = |of: fn(&Processor) -> u32| (u64::from(of(first.processor)), u64::from(of(last.processor)));
     let ((uid, last_uid), (id, last_id)) = (range(|it| it.processor_uid), range(|it| it.local_apic_id));

@@ -207,7 +207,6 @@ struct Units<'a> {
 }
 
 impl Units<'_> {
-    /// Begins the line of a structure, if it has one.
     fn start(&mut self, kind: Option<u64>) {
         self.left = &[];
         if let Some(unit) = UNITS.iter().find(|unit| self.table.starts_with(unit.table) && unit.kind == kind) {
@@ -280,7 +279,6 @@ impl Show for Units<'_> {
     }
 }
 
-/// Adds the units of the tables that are read.
 pub(crate) fn add_units(entries: &[Entry<'_>], facts: &mut Facts) {
     let has_units = |entry: &&Entry<'_>| UNITS.iter().any(|unit| entry.bytes.starts_with(unit.table));
     for entry in entries.iter().filter(|entry| entry.status.is_read()).filter(has_units) {

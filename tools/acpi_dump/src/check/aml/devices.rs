@@ -139,7 +139,6 @@ fn has_event(fadt: &[u8], event: u64) -> bool {
     event < first || base <= event && event < base.saturating_add(second)
 }
 
-/// Judges the methods of general purpose events.
 pub(super) fn check_events(machine: &Machine<'_>, names: &Names<'_>, findings: &mut Findings) {
     let Some(scope) = names.number_of(ROOT, b"_GPE") else {
         return;

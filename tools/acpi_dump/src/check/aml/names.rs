@@ -54,7 +54,6 @@ pub(super) struct Names<'a> {
 }
 
 impl<'a> Names<'a> {
-    /// No objects.
     pub(super) fn new() -> Names<'a> {
         Names {
             all: Vec::new(),
@@ -77,7 +76,6 @@ impl<'a> Names<'a> {
         self.end
     }
 
-    /// Makes them ready to be found by their paths.
     pub(super) fn sort(&mut self) {
         self.keys.sort();
     }
@@ -121,7 +119,6 @@ impl<'a> Names<'a> {
         self.find(self.number_of(scope, name)?)
     }
 
-    /// The segments of an object's path.
     pub(super) fn path(&self, it: &Named<'_>) -> &[u8] {
         self.letters.get(it.path.0..it.path.1).unwrap_or(&[])
     }
@@ -132,14 +129,12 @@ impl<'a> Names<'a> {
         scope_of(path)
     }
 
-    /// The last segment of an object's path.
     pub(super) fn name(&self, it: &Named<'_>) -> &[u8] {
         let path = self.path(it);
         path.get(path.len().saturating_sub(4)..).unwrap_or(&[])
     }
 }
 
-/// The segments of a path but the last.
 fn scope_of(path: &[u8]) -> &[u8] {
     path.get(..path.len().saturating_sub(4)).unwrap_or(&[])
 }

@@ -9,7 +9,6 @@ use crate::check::machine::Machine;
 use crate::prelude::*;
 use acpi_programs::walk::aml::constant::{integer_in, is_eisa_id, name_in};
 
-/// The text that a constant is, without its zero.
 pub(super) fn text_in(data: &[u8]) -> Option<&[u8]> {
     match data {
         [0x0D, text @ ..] => text.strip_suffix(&[0]),
@@ -17,7 +16,6 @@ pub(super) fn text_in(data: &[u8]) -> Option<&[u8]> {
     }
 }
 
-/// Judges what a name is set to by the name.
 pub(super) fn check_value(names: &Names<'_>, it: &Named<'_>, findings: &mut Findings) {
     match names.name(it) {
         b"_HID" => check_id(it.at, it.data, true, findings),
@@ -28,7 +26,6 @@ pub(super) fn check_value(names: &Names<'_>, it: &Named<'_>, findings: &mut Find
     }
 }
 
-/// Judges the ids of _CID: one, or a package of them.
 fn check_compatible(it: &Named<'_>, findings: &mut Findings) {
     let Some(elements) = elements_in(it.data) else {
         return check_id(it.at, it.data, false, findings);
@@ -54,14 +51,12 @@ fn check_id(at: usize, data: &[u8], is_hid: bool, findings: &mut Findings) {
     }
 }
 
-/// Whether a text is a PNP id or an ACPI id.
 fn is_text_id(text: &[u8]) -> bool {
     let (letters, digits) = text.split_at(text.len().saturating_sub(4));
     let is_letter = |it: &u8| it.is_ascii_uppercase() || letters.len() == 4 && it.is_ascii_digit();
     matches!(letters.len(), 3 | 4) && letters.iter().all(is_letter) && digits.iter().all(u8::is_ascii_hexdigit)
 }
 
-/// Judges a constant _STA.
 fn check_status(it: &Named<'_>, findings: &mut Findings) {
     if let Some(status) = integer_in(it.data)
         && status >> 5 != 0
@@ -84,7 +79,6 @@ fn check_types(it: &Named<'_>, findings: &mut Findings) {
     }
 }
 
-/// Finds that a machine of fixed hardware hasn't \_S5.
 pub(super) fn check_soft_off(machine: &Machine<'_>, names: &Names<'_>, findings: &mut Findings) {
     let Some((_, fadt)) = machine.first(Signature::FADT) else {
         return;
@@ -126,7 +120,6 @@ fn check_routes(names: &Names<'_>, it: &Named<'_>, findings: &mut Findings) {
     }
 }
 
-/// The source of a route: its third element.
 fn source_of(route: &[u8]) -> Option<&[u8]> {
     elements_in(route)?.nth(2).map(|(source, _)| source)
 }

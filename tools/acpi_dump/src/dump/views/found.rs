@@ -33,7 +33,6 @@ fn rsdp_of(candidate: &Candidate) -> Rsdp {
 }
 
 impl Run<'_> {
-    /// Prints the RSDPs of a memory.
     pub(super) fn print_found(&mut self, input: &Input) -> Result<u8, Stop> {
         let Input::Memory(image) = input else {
             return Err(self.fail("tables, not memory: there is no RSDP to find"));

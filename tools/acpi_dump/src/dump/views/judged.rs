@@ -10,7 +10,6 @@ use crate::prelude::*;
 use acpi_programs::input::gather::Input;
 use std::cmp::Reverse;
 
-/// Where a finding is, and its message.
 pub(super) fn place_and_message(finding: &Finding, entry: &Entry<'_>) -> String {
     let (table, offset, message) = (printed(|out| print_name(entry, out)), finding.offset, &finding.message);
     let space = if finding.field.is_empty() { "" } else { " " };

@@ -43,7 +43,6 @@ fn add_unread(facts: &mut Facts, entry: &Entry<'_>) {
 }
 
 impl Run<'_> {
-    /// Adds the facts of a memory.
     fn add_memory(&mut self, memory: &MemoryImage<'_>, facts: &mut Facts) -> Result<(), Stop> {
         let (_, tables) = &self.open(self.name(), memory)?;
         add_facts(tables, facts);
@@ -70,7 +69,6 @@ impl Run<'_> {
         }
     }
 
-    /// Prints the machine in short.
     pub(super) fn print_summary(&mut self, input: &Input) -> Result<u8, Stop> {
         let mut facts = Facts::default();
         let entries = self.add_facts_in(input, &mut facts)?;

@@ -28,7 +28,6 @@ impl<'i> Tables<'i> {
         self.entries
     }
 
-    /// The machine whose tables they are.
     pub(super) fn machine(&self) -> Machine<'_> {
         Machine { entries: &self.entries, rsdp: self.rsdp, rsdt: self.rsdt }
     }

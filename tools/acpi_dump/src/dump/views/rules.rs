@@ -10,7 +10,6 @@ fn document_of(rule: &Rule) -> RuleOf {
 }
 
 impl Run<'_> {
-    /// Prints the rules, or the one that is named.
     pub(crate) fn print_rules(&mut self) -> u8 {
         let named = self.request.rule;
         let rules: Vec<&Rule> = named.map_or_else(|| all().collect(), |rule| vec![rule]);

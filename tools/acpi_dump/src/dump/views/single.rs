@@ -52,7 +52,6 @@ fn show_value<S: ShowObjects>(entries: &[Entry<'_>], wanted: Wanted<'_>, show: &
 }
 
 impl Run<'_> {
-    /// Prints the values that are requested.
     pub(super) fn print_values(&mut self, entries: &[Entry<'_>]) -> u8 {
         let mut values = Vec::new();
         for (get, wanted) in &self.request.wanted {
