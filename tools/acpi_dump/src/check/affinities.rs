@@ -198,7 +198,7 @@ fn domain_of(entry: &SratEntry) -> (u32, usize) {
 
 /// Judges the processors of a MADT beside the processors of a SRAT.
 fn check_processors(srat: usize, madt: usize, numbers: &Numbers, findings: &mut Findings) {
-    for (list, number, offset) in numbers.all.iter() {
+    for (list, number, offset) in &numbers.all {
         let (by_uid, number) = (*list % 2, *number);
         let (table, other, id, why) = match *list - by_uid {
             PLACED => (srat, LISTED, &SRAT_UNKNOWN_PROCESSOR, "isn't in the MADT"),
@@ -216,7 +216,7 @@ fn check_processors(srat: usize, madt: usize, numbers: &Numbers, findings: &mut 
 /// Judges whether each domain of a SRAT is one of the localities of a SLIT.
 fn check_localities(count: u64, numbers: &Numbers, findings: &mut Findings) {
     let mut before = None;
-    for (list, domain, offset) in numbers.all.iter() {
+    for (list, domain, offset) in &numbers.all {
         if *list == DOMAINS && *domain >= count && before != Some(*domain) {
             findings.add(&SLIT_TOO_FEW, *offset, &[*domain, count]);
             before = Some(*domain);

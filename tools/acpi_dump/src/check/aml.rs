@@ -88,7 +88,7 @@ rules! {
 pub(crate) fn check_aml(machine: &Machine<'_>, findings: &mut Findings) {
     let names = &names_of(machine, findings);
     check_twice(machine, names, findings);
-    for it in names.all.iter() {
+    for it in &names.all {
         findings.table = it.table;
         if it.kind == "Name" {
             resources::check_template(names, it, findings);

@@ -117,7 +117,7 @@ impl Lengths {
     fn have(&self, length: u64) -> bool {
         match self {
             OneOf(lengths) => lengths.contains(&length),
-            Steps(least, step) => length >= *least && (length - least) % step == 0,
+            Steps(least, step) => length >= *least && (length - least).is_multiple_of(*step),
         }
     }
 }

@@ -194,7 +194,7 @@ fn check_references(numbers: &Numbers, findings: &mut Findings) {
     if numbers.from(BASES, 0).is_none() {
         return;
     }
-    for (list, number, offset) in numbers.all.iter() {
+    for (list, number, offset) in &numbers.all {
         // Each I/O APIC has at most 256 pins.
         let base = numbers.from(BASES, number.saturating_sub(255));
         if *list == OVERRIDES && !matches!(base, Some((base, _)) if base <= *number) {

@@ -83,7 +83,7 @@ fn add_pointers(list: u64, table: &[u8], width: usize, pointers: &mut Numbers) {
 /// Judges the pointers of the root table, and compares an XSDT with the RSDT that is beside it.
 fn check_pointers(has_beside: bool, pointers: &mut Numbers, findings: &mut Findings) {
     findings.add_repeated(&[&ROOT_LISTED_TWICE], pointers);
-    for (list, address, offset) in pointers.all.iter() {
+    for (list, address, offset) in &pointers.all {
         let (list, address) = (*list, *address);
         if address == 0 {
             if list == LISTED {
@@ -137,7 +137,7 @@ fn check_second(machine: &Machine<'_>, findings: &mut Findings) {
     }
     tables.sort();
     let mut before = (0, None);
-    for (_, letters, index) in tables.all.iter() {
+    for (_, letters, index) in &tables.all {
         let place = machine.entries.get(*index).and_then(|entry| entry.place.address());
         let is_same_place = place == before.1 && !matches!(place, None | Some(0));
         if before.0 == *letters && !is_same_place {

@@ -50,10 +50,12 @@ impl Items<'_> {
         let (item, part) = (self.items.len(), &mut self.parts[self.open]);
         match part.id {
             None if ends_with(name, &IDS) => part.id = Some(item),
-            Some(first) if part.other_id.is_none() && ends_with(name, &OTHERS) => {
-                if ends_with(self.items[first].name, &SHARED) {
-                    part.other_id = Some(item);
-                }
+            Some(first)
+                if part.other_id.is_none()
+                    && ends_with(name, &OTHERS)
+                    && ends_with(self.items[first].name, &SHARED) =>
+            {
+                part.other_id = Some(item);
             }
             _ => {}
         }

@@ -46,7 +46,7 @@ struct Objects<'a> {
     shown: u64,
 }
 
-impl<'a> Objects<'a> {
+impl Objects<'_> {
     /// Adds what has no path of its own, or an object up to its path and its value.
     fn add(&mut self, offset: u64, length: u64, own: (u64, u64), kind: &'static str) {
         self.known.push(Known {

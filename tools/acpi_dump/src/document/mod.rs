@@ -8,7 +8,7 @@ use crate::prelude::*;
 use crate::summary::Summary;
 use serde::Serialize;
 use serde_json::ser::{PrettyFormatter, Serializer};
-use std::io::{self, Write};
+use std::io::{self, BufWriter, Write};
 
 pub(crate) use rows::{Row, Rows};
 pub(crate) use tables::{Compared, Part, Tables};
@@ -17,7 +17,7 @@ pub(crate) use tables::{Compared, Part, Tables};
 const VERSION: u32 = 1;
 
 /// What a view shows.
-#[derive(Serialize)]
+#[derive(Serialize, Default)]
 pub(crate) struct Document<'d> {
     #[serde(skip_serializing_if = "Option::is_none")]
     facts: Option<Vec<FactLine<'d>>>,
@@ -93,19 +93,7 @@ pub(crate) struct Value<'d> {
 
 impl<'d> Document<'d> {
     fn new(inputs: &'d [&'d str], view: &'static str) -> Document<'d> {
-        Document {
-            facts: None,
-            findings: None,
-            inputs,
-            left_out: None,
-            machine: None,
-            rsdps: None,
-            rules: None,
-            tables: None,
-            values: None,
-            version: VERSION,
-            view,
-        }
+        Document { inputs, version: VERSION, view, ..Document::default() }
     }
 
     pub(crate) fn of_findings(inputs: &'d [&'d str], findings: Vec<FindingOf>, left_out: usize) -> Document<'d> {
@@ -151,8 +139,11 @@ fn hex(bytes: &[u8]) -> String {
 }
 
 pub(crate) fn print(document: &impl Serialize, out: &mut Out) {
-    let mut serializer = Serializer::with_formatter(Escaped(&mut *out), PrettyFormatter::new());
-    document.serialize(&mut serializer).expect("memory is written");
+    let mut written = BufWriter::new(Escaped(&mut *out));
+    let printed = document.serialize(&mut Serializer::with_formatter(&mut written, PrettyFormatter::new()));
+    printed.expect("memory is written");
+    written.flush().expect("memory is written");
+    drop(written);
     out.text("\n");
 }
 

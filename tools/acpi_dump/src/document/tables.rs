@@ -201,7 +201,7 @@ impl Changed {
             depth: line.depth,
             offset: line.offset,
             only: side(line.is_first),
-            text: line.text.to_string(),
+            text: line.text.clone(),
         };
         Changed {
             code: difference.code.iter().map(line).collect(),

@@ -43,18 +43,18 @@ fn print_line(entry: &Entry<'_>, width: usize, paint: Paint, out: &mut Out) {
         _ => {
             // A FACS or an RSDP has the length alone.
             if is_cut {
-                out.text("-       ")
+                out.text("-       ");
             } else if bytes.starts_with(b"RSD PTR ") {
-                write!(out, "{:08x}", bytes.len())
+                write!(out, "{:08x}", bytes.len());
             } else {
-                write!(out, "{:08x}", field(bytes, 4, 4))
+                write!(out, "{:08x}", field(bytes, 4, 4));
             }
-            out.text(" -   -      -        -        -    -       ")
+            out.text(" -   -      -        -        -    -       ");
         }
     }
     out.text(" ");
     paint.status(entry.status, out);
-    out.text("\n")
+    out.text("\n");
 }
 
 fn print_place(place: Place<'_>, width: usize, out: &mut Out) {
@@ -68,7 +68,7 @@ fn print_place(place: Place<'_>, width: usize, out: &mut Out) {
     for _ in out.length().saturating_sub(start)..width {
         out.text(" ");
     }
-    out.text(" ")
+    out.text(" ");
 }
 
 fn print_columns(header: &SdtHeader, out: &mut Out) {
@@ -78,5 +78,5 @@ fn print_columns(header: &SdtHeader, out: &mut Out) {
     print_text(&header.oem_table_id, out);
     write!(out, " {:08x} ", header.oem_revision);
     print_text(&header.creator_id.to_le_bytes(), out);
-    write!(out, " {:08x}", header.creator_revision)
+    write!(out, " {:08x}", header.creator_revision);
 }

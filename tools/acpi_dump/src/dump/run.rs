@@ -32,14 +32,15 @@ pub(crate) struct Run<'r> {
 ///
 /// Fails with the error of the first write or flush of standard output, or else of standard error, that fails.
 pub fn run(words: &[&str]) -> io::Result<u8> {
+    let arguments = Arguments::of(words);
     #[cfg(feature = "fleet")]
-    if let Ok(arguments) = Arguments::of(words)
+    if let Ok(arguments) = &arguments
         && arguments.fleet
     {
-        return Ok(crate::fleet::run(&arguments));
+        return Ok(crate::fleet::run(arguments));
     }
     let (mut out, mut log) = (Out::new(Global), Log::new(Global));
-    let status = print_words(words, None, &mut out, &mut log);
+    let status = print_asked(&arguments, None, &mut out, &mut log);
     if let Err(Stop::OutOfMemory) = status {
         log.text.text("acpi_dump: out of memory\n");
     }
@@ -59,15 +60,20 @@ pub fn run(words: &[&str]) -> io::Result<u8> {
 /// What a run prints on standard output, where `-` is an input of these bytes.
 pub fn printed_of(words: &[&str], input: &[u8]) -> String {
     let mut out = Out::new(Global);
-    match print_words(words, Some(input), &mut out, &mut Log::new(Global)) {
+    match print_asked(&Arguments::of(words), Some(input), &mut out, &mut Log::new(Global)) {
         Ok(_) | Err(_) => text_of(&out).to_string(),
     }
 }
 
-/// Prints what words ask for, or what is wrong with them.
-fn print_words(words: &[&str], input: Option<&[u8]>, out: &mut Out, log: &mut Log) -> Result<u8, Stop> {
-    match Arguments::of(words) {
-        Ok(arguments) => match Request::of(&arguments) {
+/// Prints what arguments ask for, or what is wrong with them.
+fn print_asked(
+    arguments: &Result<Arguments, Refusal>,
+    input: Option<&[u8]>,
+    out: &mut Out,
+    log: &mut Log,
+) -> Result<u8, Stop> {
+    match arguments {
+        Ok(arguments) => match Request::of(arguments) {
             Ok(request) => print_requested(&request, input, out, log),
             Err(Wrong(text)) => {
                 log.text.text(&text);
@@ -75,7 +81,7 @@ fn print_words(words: &[&str], input: Option<&[u8]>, out: &mut Out, log: &mut Lo
             }
         },
         Err(Refusal::Asked(text)) => {
-            out.text(&text);
+            out.text(text);
             Ok(0)
         }
         Err(Refusal::Mistake(text)) => {

@@ -44,120 +44,72 @@ pub(super) struct Drawn {
     pub(super) text: &'static [Word],
 }
 
-/// A processor, which has an id in a field.
-const fn cpu(table: &'static [u8; 4], name: &'static str, kind: Kind, flags: usize, text: &'static [Word]) -> Drawn {
-    Drawn { table, name, kind, class: "cpu", flags: Some(flags), text }
+macro_rules! flags {
+    () => {
+        None
+    };
+    ($offset:literal) => {
+        Some($offset)
+    };
 }
 
-const fn drawn(
-    table: &'static [u8; 4],
-    name: &'static str,
-    kind: Kind,
-    class: &'static str,
-    text: &'static [Word],
-) -> Drawn {
-    Drawn { table, name, kind, class, flags: None, text }
+macro_rules! drawn {
+    ($($table:literal $name:literal $kind:ident $class:literal $($flags:literal)?: $($word:expr),+;)+) => {
+        /// The structures that are drawn, of which the first counts that has the letters and the front of the name.
+        static DRAWN: &[Drawn] = &[$(Drawn {
+            table: $table,
+            name: $name,
+            kind: $kind,
+            class: $class,
+            flags: flags![$($flags)?],
+            text: &[$($word),+],
+        }),+];
+    };
 }
 
-const UID: &[Word] = &[Of("ACPI Processor UID")];
-
-const SEGMENT: &[Word] = &[Is("segment "), Of("Segment Number"), Is(" "), Of("Flags")];
-
-/// The structures that are drawn, of which the first counts that has the letters and the front of the name.
-static DRAWN: [Drawn; 35] = [
-    drawn(b"SRAT", "Memory", Domain, "mem", &[Size("Length"), Is(" from "), Of("Base Address")]),
-    cpu(b"SRAT", "Processor Local APIC", Domain, 4, &[Of("APIC ID")]),
-    cpu(b"SRAT", "Processor Local x2APIC", Domain, 12, &[Of("X2APIC ID")]),
-    cpu(b"SRAT", "GICC", Domain, 10, UID),
-    cpu(b"SRAT", "RINTC", Domain, 12, UID),
-    cpu(b"APIC", "Processor Local APIC", Processors, 4, &[Of("APIC ID")]),
-    cpu(b"APIC", "Processor Local x2APIC", Processors, 8, &[Of("X2APIC ID")]),
-    cpu(b"APIC", "Local SAPIC", Processors, 8, &[Of("Local SAPIC ID")]),
-    cpu(b"APIC", "Core", Processors, 11, &[Of("ACPI Processor ID")]),
-    cpu(b"APIC", "RISC-V Interrupt", Processors, 4, &[Of("Hart ID")]),
-    drawn(
-        b"APIC",
-        "I/O APIC",
-        IoApic,
-        "box",
-        &[Is("at "), Of("I/O APIC Address"), Is(", interrupts from "), Of("Global System Interrupt Base"), Is(" on")],
-    ),
-    drawn(
-        b"MCFG",
-        "",
-        Segments,
-        "bus",
-        &[
-            Is("segment "),
-            Of("PCI Segment Group Number"),
-            Is(" at "),
-            Of("Base Address"),
-            Is(", buses "),
-            Two("Start Bus Number"),
-            Is(" to "),
-            Two("End Bus Number"),
-        ],
-    ),
-    drawn(
-        b"DMAR",
-        "DMA",
-        Unit,
-        "box",
-        &[Is("segment "), Of("Segment Number"), Is(" at "), Of("Register Base Address"), Is(" "), Of("Flags")],
-    ),
-    drawn(
-        b"DMAR",
-        "Reserved",
-        Unit,
-        "mem",
-        &[Of("Reserved Memory Region Base Address"), Is(" to "), Of("Reserved Memory Region Limit Address")],
-    ),
-    drawn(b"DMAR", "Remapping", Unit, "box", &[Of("Register Base Address"), Is(", domain "), Of("Proximity Domain")]),
-    drawn(b"DMAR", "ACPI", Unit, "box", &[Of("ACPI Object Name"), Is(", device "), Of("ACPI Device Number")]),
-    drawn(b"DMAR", "Root", Unit, "box", SEGMENT),
-    drawn(b"DMAR", "SoC", Unit, "box", SEGMENT),
-    drawn(b"DMAR", "unknown", Unit, "box", &[Name]),
-    drawn(b"DMAR", "", Unit, "dev", &[Two("Start Bus Number"), Is(":"), Of("Path"), Is(" "), Name]),
-    drawn(b"IVRS", "I/O Virtualization Hardware", Unit, "box", &[Of("DeviceID"), Is(" at "), Of("IOMMU Base Address")]),
-    drawn(
-        b"IVRS",
-        "I/O Virtualization Memory",
-        Unit,
-        "mem",
-        &[Size("IVMD memory block length"), Is(" from "), Of("IVMD start address")],
-    ),
-    drawn(b"IVRS", "Special", Unit, "dev", &[Of("Source DeviceID"), Is(" "), Of("Variety"), Is(" "), Of("Handle")]),
-    drawn(b"IVRS", "", Unit, "dev", &[Of("DeviceID"), Is(" "), Name]),
-    drawn(
-        b"IORT",
-        "ID",
-        Unit,
-        "dev",
-        &[Is("from "), Of("Input base"), Is(", "), Of("Number of IDs"), Is(" IDs to "), Of("Output base")],
-    ),
-    drawn(b"IORT", "Named", Unit, "box", &[Of("Device object name")]),
-    drawn(b"IORT", "Root", Unit, "box", &[Is("segment "), Of("PCI Segment number")]),
-    drawn(b"IORT", "SMMUv3", Unit, "box", &[Of("Model"), Is(" at "), Of("Base Address")]),
-    drawn(b"IORT", "SMMU", Unit, "box", &[Of("Model"), Is(" at "), Of("Base address")]),
-    drawn(b"IORT", "", Unit, "box", &[Name]),
-    cpu(b"APIC", "GIC CPU", Gic, 12, UID),
-    drawn(
-        b"APIC",
-        "GIC D",
-        Gic,
-        "box",
-        &[Is("distributor at "), Of("Physical Base Address"), Is(", "), Of("GIC version")],
-    ),
-    drawn(
-        b"APIC",
-        "GIC M",
-        Gic,
-        "box",
-        &[Is("MSI frame "), Of("GIC MSI Frame ID"), Is(" at "), Of("Physical Base Address")],
-    ),
-    drawn(b"APIC", "GIC R", Gic, "box", &[Is("redistributors from "), Of("Discovery Range Base Address")]),
-    drawn(b"APIC", "GIC I", Gic, "box", &[Is("ITS "), Of("GIC ITS ID"), Is(" at "), Of("Physical Base Address")]),
-];
+drawn! {
+    b"SRAT" "Memory" Domain "mem": Size("Length"), Is(" from "), Of("Base Address");
+    b"SRAT" "Processor Local APIC" Domain "cpu" 4: Of("APIC ID");
+    b"SRAT" "Processor Local x2APIC" Domain "cpu" 12: Of("X2APIC ID");
+    b"SRAT" "GICC" Domain "cpu" 10: Of("ACPI Processor UID");
+    b"SRAT" "RINTC" Domain "cpu" 12: Of("ACPI Processor UID");
+    b"APIC" "Processor Local APIC" Processors "cpu" 4: Of("APIC ID");
+    b"APIC" "Processor Local x2APIC" Processors "cpu" 8: Of("X2APIC ID");
+    b"APIC" "Local SAPIC" Processors "cpu" 8: Of("Local SAPIC ID");
+    b"APIC" "Core" Processors "cpu" 11: Of("ACPI Processor ID");
+    b"APIC" "RISC-V Interrupt" Processors "cpu" 4: Of("Hart ID");
+    b"APIC" "I/O APIC" IoApic "box": Is("at "), Of("I/O APIC Address"), Is(", interrupts from "),
+        Of("Global System Interrupt Base"), Is(" on");
+    b"MCFG" "" Segments "bus": Is("segment "), Of("PCI Segment Group Number"), Is(" at "), Of("Base Address"),
+        Is(", buses "), Two("Start Bus Number"), Is(" to "), Two("End Bus Number");
+    b"DMAR" "DMA" Unit "box": Is("segment "), Of("Segment Number"), Is(" at "), Of("Register Base Address"),
+        Is(" "), Of("Flags");
+    b"DMAR" "Reserved" Unit "mem": Of("Reserved Memory Region Base Address"), Is(" to "),
+        Of("Reserved Memory Region Limit Address");
+    b"DMAR" "Remapping" Unit "box": Of("Register Base Address"), Is(", domain "), Of("Proximity Domain");
+    b"DMAR" "ACPI" Unit "box": Of("ACPI Object Name"), Is(", device "), Of("ACPI Device Number");
+    b"DMAR" "Root" Unit "box": Is("segment "), Of("Segment Number"), Is(" "), Of("Flags");
+    b"DMAR" "SoC" Unit "box": Is("segment "), Of("Segment Number"), Is(" "), Of("Flags");
+    b"DMAR" "unknown" Unit "box": Name;
+    b"DMAR" "" Unit "dev": Two("Start Bus Number"), Is(":"), Of("Path"), Is(" "), Name;
+    b"IVRS" "I/O Virtualization Hardware" Unit "box": Of("DeviceID"), Is(" at "), Of("IOMMU Base Address");
+    b"IVRS" "I/O Virtualization Memory" Unit "mem": Size("IVMD memory block length"), Is(" from "),
+        Of("IVMD start address");
+    b"IVRS" "Special" Unit "dev": Of("Source DeviceID"), Is(" "), Of("Variety"), Is(" "), Of("Handle");
+    b"IVRS" "" Unit "dev": Of("DeviceID"), Is(" "), Name;
+    b"IORT" "ID" Unit "dev": Is("from "), Of("Input base"), Is(", "), Of("Number of IDs"), Is(" IDs to "),
+        Of("Output base");
+    b"IORT" "Named" Unit "box": Of("Device object name");
+    b"IORT" "Root" Unit "box": Is("segment "), Of("PCI Segment number");
+    b"IORT" "SMMUv3" Unit "box": Of("Model"), Is(" at "), Of("Base Address");
+    b"IORT" "SMMU" Unit "box": Of("Model"), Is(" at "), Of("Base address");
+    b"IORT" "" Unit "box": Name;
+    b"APIC" "GIC CPU" Gic "cpu" 12: Of("ACPI Processor UID");
+    b"APIC" "GIC D" Gic "box": Is("distributor at "), Of("Physical Base Address"), Is(", "), Of("GIC version");
+    b"APIC" "GIC M" Gic "box": Is("MSI frame "), Of("GIC MSI Frame ID"), Is(" at "), Of("Physical Base Address");
+    b"APIC" "GIC R" Gic "box": Is("redistributors from "), Of("Discovery Range Base Address");
+    b"APIC" "GIC I" Gic "box": Is("ITS "), Of("GIC ITS ID"), Is(" at "), Of("Physical Base Address");
+}
 
 /// How a structure of a table is drawn, if it is.
 pub(super) fn drawn_of(sheet: &Sheet<'_>, structure: &Part) -> Option<&'static Drawn> {

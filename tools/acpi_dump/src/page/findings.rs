@@ -49,7 +49,7 @@ fn print_finding(number: usize, finding: &Finding, sheet: &Sheet<'_>, out: &mut 
             Text(rule.id),
             Text(rule.section),
         ],
-    )
+    );
 }
 
 /// Prints the findings of these numbers, which rules find in a field, after its row.

@@ -45,7 +45,7 @@ pub(super) fn print_front(source: Source<'_>, sheets: &[Sheet<'_>], has_drawing:
         print_link(sheet, out);
     }
     out.markup("</nav>\n<main id=\"top\"><header><h1>ACPI tables");
-    out.fill(heading, &names)
+    out.fill(heading, &names);
 }
 
 fn print_link(sheet: &Sheet<'_>, out: &mut Html) {
@@ -56,9 +56,9 @@ fn print_link(sheet: &Sheet<'_>, out: &mut Html) {
         _ => " class=\"dif\"",
     };
     let pieces = [Id(sheet.id, None), Markup(class), Letters(sheet.signature)];
-    out.fill("<a href=\"#$\"$>$</a>", &pieces)
+    out.fill("<a href=\"#$\"$>$</a>", &pieces);
 }
 
 pub(super) fn print_end(out: &mut Html) {
-    out.fill(END, &[Markup(SCRIPT)])
+    out.fill(END, &[Markup(SCRIPT)]);
 }

@@ -45,7 +45,7 @@ impl Tile {
         self.boxes.markup(if target.is_some() { "</a>\n" } else { "\n" });
         self.x += width;
         self.text.clear();
-        self.title.clear()
+        self.title.clear();
     }
 
     /// Draws the box itself, of a width with its gap, as a link that ends after the text.
@@ -63,7 +63,7 @@ impl Tile {
                 Decimal(width.saturating_sub(GAP)),
                 Decimal(HEIGHT - GAP),
             ],
-        )
+        );
     }
 
     /// Draws the text of a box of a width with its gap, if it fits.
@@ -77,7 +77,7 @@ impl Tile {
         if (self.text.as_str().len() as u64).saturating_mul(letter) <= width {
             let place = [Text(class), Decimal(self.x + start), Decimal(self.y + 14), Printed(&self.text)];
             let text = "<text class=\"$\" x=\"$\" y=\"$\">$</text>";
-            self.boxes.fill(text, &place)
+            self.boxes.fill(text, &place);
         }
     }
 
@@ -86,6 +86,6 @@ impl Tile {
         out.fill(
             "</figcaption><svg viewBox=\"0 0 $ $\" role=\"group\">\n$</svg></div></figure>\n",
             &[Decimal(WIDTH), height, Printed(&self.boxes)],
-        )
+        );
     }
 }

@@ -36,16 +36,6 @@ enum Form {
     Item,
 }
 
-const fn unit(
-    table: &'static [u8; 4],
-    kind: Option<u64>,
-    subject: &'static str,
-    (name, of_kind): (&'static str, &'static str),
-    parts: &'static [Part],
-) -> Unit {
-    Unit { table, kind, subject, name, of_kind, parts }
-}
-
 const fn value(before: &'static str, member: &'static str, field: &'static str) -> Part {
     Part { before, member, field, form: Form::Value }
 }
@@ -54,13 +44,6 @@ const fn bytes(before: &'static str, member: &'static str, field: &'static str) 
     Part { before, member, field, form: Form::Size }
 }
 
-/// The parts of an IVHD.
-const IVHD: &[Part] = &[
-    value(", function ", "function", "DeviceID"),
-    value(", registers at ", "registers", "IOMMU Base Address"),
-    value(", segment ", "segment", "PCI Segment Group"),
-];
-
 const CLASS: Part = value(", ", "class", "Platform Class");
 
 const LOG_LENGTH: Part =
@@ -68,133 +51,75 @@ const LOG_LENGTH: Part =
 
 const LOG: Part = value(" at ", "log", "Log Area Start Address (LASA)");
 
-static UNITS: [Unit; 17] = [
-    unit(
-        b"DMAR",
-        Some(0),
-        "iommus",
-        ("IOMMU", "VT-d"),
-        &[
-            value(", ", "flags", "Flags"),
-            value(", segment ", "segment", "Segment Number"),
-            value(", registers at ", "registers", "Register Base Address"),
-        ],
-    ),
-    unit(b"IVRS", Some(0x10), "iommus", ("IOMMU", "AMD, IVHD 0x10"), IVHD),
-    unit(b"IVRS", Some(0x11), "iommus", ("IOMMU", "AMD, IVHD 0x11"), IVHD),
-    unit(b"IVRS", Some(0x40), "iommus", ("IOMMU", "AMD, IVHD 0x40"), IVHD),
-    unit(
-        b"IORT",
-        Some(3),
-        "iommus",
-        ("IOMMU", "Arm"),
-        &[
-            value(", registers at ", "registers", "Base address"),
-            bytes(", ", "length", "Span"),
-            value(", ", "model", "Model"),
-        ],
-    ),
-    unit(
-        b"IORT",
-        Some(4),
-        "iommus",
-        ("IOMMU", "Arm"),
-        &[value(", registers at ", "registers", "Base Address"), value(", ", "model", "Model")],
-    ),
-    unit(
-        b"VIOT",
-        Some(3),
-        "iommus",
-        ("IOMMU", "virtio"),
-        &[value(", segment ", "segment", "PCI Segment"), value(", function ", "function", "PCI BDF number")],
-    ),
-    unit(b"VIOT", Some(4), "iommus", ("IOMMU", "virtio"), &[value(", registers at ", "registers", "Base address")]),
-    unit(b"TPM2", None, "tpms", ("TPM", "2.0"), &[CLASS, value(", ", "start_method", "Start Method"), LOG_LENGTH, LOG]),
-    unit(b"TCPA", None, "tpms", ("TPM", "1.2"), &[CLASS, LOG_LENGTH, LOG]),
-    unit(
-        b"NFIT",
-        Some(0),
-        "nvdimm_ranges",
-        ("NVDIMM range ", ""),
-        &[
-            value("", "range", "SPA Range Structure Index"),
-            value("\t", "kind", "Address Range Type GUID"),
-            value(" from ", "base", "System Physical Address Range Base"),
-            bytes(" on, ", "length", "System Physical Address Range Length"),
-        ],
-    ),
-    unit(
-        b"NFIT",
-        Some(1),
-        "nvdimms",
-        ("NVDIMM ", ""),
-        &[
-            value("", "handle", "NFIT Device Handle"),
-            value("\trange ", "range", "SPA Range Structure Index"),
-            bytes(", ", "length", "NVDIMM Region Size"),
-            value(", ", "flags", "NVDIMM State Flags"),
-        ],
-    ),
-    unit(
-        b"GTDT",
-        None,
-        "arm_timers",
-        ("Arm timer", "generic"),
-        &[
-            value(", interrupts: secure EL1 ", "secure_el1", "Secure EL1 Timer GSIV"),
-            value(", non-secure EL1 ", "non_secure_el1", "Non-Secure EL1 Timer GSIV"),
-            value(", virtual EL1 ", "virtual_el1", "Virtual EL1 Timer GSIV"),
-            value(", EL2 ", "el2", "EL2 Timer GSIV"),
-            value(", virtual EL2 ", "virtual_el2", "Virtual EL2 Timer GSIV"),
-        ],
-    ),
-    unit(
-        b"GTDT",
-        Some(0),
-        "arm_timers",
-        ("Arm timer", "block"),
-        &[
-            value(", registers at ", "registers", "GT Block Physical address"),
-            value(", timers ", "timers", "GT Block Timer Count"),
-        ],
-    ),
-    unit(
-        b"GTDT",
-        Some(1),
-        "arm_timers",
-        ("Arm timer", "watchdog"),
-        &[
-            value(", refreshed at ", "refresh", "RefreshFrame Physical Address"),
-            value(", registers at ", "registers", "WatchdogControlFrame Physical Address"),
-            value(", interrupt ", "interrupt", "Watchdog Timer GSIV"),
-        ],
-    ),
-    unit(
-        b"CEDT",
-        Some(0),
-        "cxl_host_bridges",
-        ("CXL host bridge ", ""),
-        &[value("", "uid", "UID"), value("\tregisters at ", "registers", "Base"), bytes(", ", "length", "Length")],
-    ),
-    unit(
-        b"CEDT",
-        Some(1),
-        "cxl_windows",
-        ("CXL window", ""),
-        &[
-            value("\tfrom ", "base", "Base HPA"),
-            bytes(" on, ", "length", "Window Size"),
-            value(", ", "ways", "Encoded Number of Interleave Ways (ENIW)"),
-            value(", ", "restrictions", "Window Restrictions"),
-            Part {
-                before: ", host bridge ",
-                member: "host_bridges",
-                field: "Interleave Target List",
-                form: Form::Item,
-            },
-        ],
-    ),
-];
+macro_rules! units {
+    ($($table:literal $([$kind:literal])? $subject:literal $name:literal $of:literal: $($part:expr),+;)+) => {
+        static UNITS: &[Unit] = &[$(Unit {
+            table: $table,
+            kind: kind![$($kind)?],
+            subject: $subject,
+            name: $name,
+            of_kind: $of,
+            parts: &[$($part),+],
+        }),+];
+    };
+}
+
+macro_rules! kind {
+    () => {
+        None
+    };
+    ($kind:literal) => {
+        Some($kind)
+    };
+}
+
+units! {
+    b"DMAR" [0] "iommus" "IOMMU" "VT-d": value(", ", "flags", "Flags"),
+        value(", segment ", "segment", "Segment Number"),
+        value(", registers at ", "registers", "Register Base Address");
+    b"IVRS" [0x10] "iommus" "IOMMU" "AMD, IVHD 0x10": value(", function ", "function", "DeviceID"),
+        value(", registers at ", "registers", "IOMMU Base Address"),
+        value(", segment ", "segment", "PCI Segment Group");
+    b"IVRS" [0x11] "iommus" "IOMMU" "AMD, IVHD 0x11": value(", function ", "function", "DeviceID"),
+        value(", registers at ", "registers", "IOMMU Base Address"),
+        value(", segment ", "segment", "PCI Segment Group");
+    b"IVRS" [0x40] "iommus" "IOMMU" "AMD, IVHD 0x40": value(", function ", "function", "DeviceID"),
+        value(", registers at ", "registers", "IOMMU Base Address"),
+        value(", segment ", "segment", "PCI Segment Group");
+    b"IORT" [3] "iommus" "IOMMU" "Arm": value(", registers at ", "registers", "Base address"),
+        bytes(", ", "length", "Span"), value(", ", "model", "Model");
+    b"IORT" [4] "iommus" "IOMMU" "Arm": value(", registers at ", "registers", "Base Address"),
+        value(", ", "model", "Model");
+    b"VIOT" [3] "iommus" "IOMMU" "virtio": value(", segment ", "segment", "PCI Segment"),
+        value(", function ", "function", "PCI BDF number");
+    b"VIOT" [4] "iommus" "IOMMU" "virtio": value(", registers at ", "registers", "Base address");
+    b"TPM2" "tpms" "TPM" "2.0": CLASS, value(", ", "start_method", "Start Method"), LOG_LENGTH, LOG;
+    b"TCPA" "tpms" "TPM" "1.2": CLASS, LOG_LENGTH, LOG;
+    b"NFIT" [0] "nvdimm_ranges" "NVDIMM range " "": value("", "range", "SPA Range Structure Index"),
+        value("\t", "kind", "Address Range Type GUID"),
+        value(" from ", "base", "System Physical Address Range Base"),
+        bytes(" on, ", "length", "System Physical Address Range Length");
+    b"NFIT" [1] "nvdimms" "NVDIMM " "": value("", "handle", "NFIT Device Handle"),
+        value("\trange ", "range", "SPA Range Structure Index"), bytes(", ", "length", "NVDIMM Region Size"),
+        value(", ", "flags", "NVDIMM State Flags");
+    b"GTDT" "arm_timers" "Arm timer" "generic":
+        value(", interrupts: secure EL1 ", "secure_el1", "Secure EL1 Timer GSIV"),
+        value(", non-secure EL1 ", "non_secure_el1", "Non-Secure EL1 Timer GSIV"),
+        value(", virtual EL1 ", "virtual_el1", "Virtual EL1 Timer GSIV"), value(", EL2 ", "el2", "EL2 Timer GSIV"),
+        value(", virtual EL2 ", "virtual_el2", "Virtual EL2 Timer GSIV");
+    b"GTDT" [0] "arm_timers" "Arm timer" "block": value(", registers at ", "registers", "GT Block Physical address"),
+        value(", timers ", "timers", "GT Block Timer Count");
+    b"GTDT" [1] "arm_timers" "Arm timer" "watchdog":
+        value(", refreshed at ", "refresh", "RefreshFrame Physical Address"),
+        value(", registers at ", "registers", "WatchdogControlFrame Physical Address"),
+        value(", interrupt ", "interrupt", "Watchdog Timer GSIV");
+    b"CEDT" [0] "cxl_host_bridges" "CXL host bridge " "": value("", "uid", "UID"),
+        value("\tregisters at ", "registers", "Base"), bytes(", ", "length", "Length");
+    b"CEDT" [1] "cxl_windows" "CXL window" "": value("\tfrom ", "base", "Base HPA"),
+        bytes(" on, ", "length", "Window Size"), value(", ", "ways", "Encoded Number of Interleave Ways (ENIW)"),
+        value(", ", "restrictions", "Window Restrictions"),
+        Part { before: ", host bridge ", member: "host_bridges", field: "Interleave Target List", form: Form::Item, };
+}
 
 /// The lines of a table's units, as a walk over it comes to their fields.
 struct Units<'a> {

@@ -64,7 +64,7 @@ pub(super) fn check_regions(machine: &Machine<'_>, names: &Names<'_>, findings: 
         return;
     }
     let mut spans = Vec::new();
-    for it in names.all.iter() {
+    for it in &names.all {
         if !matches!(names.name(it), b"_CRS") {
             continue;
         }

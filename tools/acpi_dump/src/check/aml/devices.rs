@@ -81,7 +81,7 @@ const PROCESSORS: [Kept; 5] = [
 
 /// Adds the UIDs of the processors of the AML. Returns whether they are all.
 fn add_processors(names: &Names<'_>, numbers: &mut Numbers) -> bool {
-    for it in names.all.iter() {
+    for it in &names.all {
         if it.kind == "Processor" {
             numbers.push(DEFINED, field(it.data, 0, 1), it.offset);
         } else if it.kind == "Device" && is_processor(names, it.key) {
@@ -111,7 +111,7 @@ pub(super) fn check_processors(machine: &Machine<'_>, names: &Names<'_>, finding
         return;
     }
     let (mut first, mut count) = (None, 0u64);
-    for (list, unique, offset) in numbers.all.iter() {
+    for (list, unique, offset) in &numbers.all {
         if *list == ENABLED && !numbers.has(DEFINED, *unique) {
             first = first.or(Some((*unique, *offset)));
             count += 1;
@@ -144,7 +144,7 @@ pub(super) fn check_events(machine: &Machine<'_>, names: &Names<'_>, findings: &
         return;
     };
     let fadt = machine.first(Signature::FADT).map(|(_, fadt)| fadt);
-    for it in names.all.iter() {
+    for it in &names.all {
         let name = names.name(it);
         let Some(event) = event_of(name) else {
             continue;

@@ -94,13 +94,12 @@ impl<'a> Names<'a> {
         let mut number = from;
         for segment in segments.chunks(4) {
             let place = place_of(number, segment);
-            number = match self.numbers.get(&place) {
-                Some(found) => *found,
-                None => {
-                    let next = self.numbers.len() as u64 + 1;
-                    self.numbers.insert(place, next);
-                    next
-                }
+            number = if let Some(found) = self.numbers.get(&place) {
+                *found
+            } else {
+                let next = self.numbers.len() as u64 + 1;
+                self.numbers.insert(place, next);
+                next
             };
         }
         number

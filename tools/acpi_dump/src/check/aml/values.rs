@@ -100,7 +100,7 @@ pub(super) fn check_links(machine: &Machine<'_>, names: &Names<'_>, findings: &m
     if !names.are_all || !machine.is_whole() {
         return;
     }
-    for it in names.all.iter() {
+    for it in &names.all {
         if it.kind == "Name" && matches!(names.name(it), b"_PRT") {
             check_routes(names, it, findings);
         }
