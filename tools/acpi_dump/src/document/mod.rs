@@ -152,6 +152,10 @@ struct Escaped<'o>(&'o mut Out);
 
 impl Write for Escaped<'_> {
     fn write(&mut self, json: &[u8]) -> io::Result<usize> {
+        if !json.contains(&0x7f) {
+            self.0.bytes(json);
+            return Ok(json.len());
+        }
         for (number, part) in json.split(|byte| *byte == 0x7f).enumerate() {
             if number > 0 {
                 self.0.text("\\u007f");
