@@ -3,9 +3,16 @@
 use std::path::{Path, PathBuf};
 use std::process::Command;
 
-/// acpi_view, which some runs read an image by, built beside the program.
+/// acpi_view, which some runs read an image by: the one that $ACPI_VIEW names, or that is built beside the program, as
+/// cargo does at the workspace's root.
 fn built_view() -> PathBuf {
+    if let Some(view) = std::env::var_os("ACPI_VIEW") {
+        return PathBuf::from(view);
+    }
     let view = Path::new(env!("CARGO_BIN_EXE_acpi_dump")).with_file_name("acpi_view");
+    if view.exists() {
+        return view;
+    }
     let mut cargo = Command::new(env!("CARGO"));
     cargo.args(["build", "-q", "-p", "acpi_programs", "--bin", "acpi_view", "--target-dir"]);
     cargo.arg(view.ancestors().nth(2).expect("it is in a profile's folder")).current_dir(env!("CARGO_MANIFEST_DIR"));
