@@ -3,9 +3,9 @@
 use super::differences::{Differing, differences};
 use super::machines::{Machine, read_machine};
 use super::sums::{Sum, Sums};
-use super::{Fleet, Group, Request};
+use super::{Fleet, Group, Member, Request};
 use crate::prelude::*;
-use serde_json::{Map, Value, json};
+use serde::Serialize;
 use std::collections::HashMap;
 use std::io::{Result, Write};
 
@@ -157,30 +157,54 @@ fn print_counts(counts: HashMap<String, usize>, base: &str, out: &mut impl Write
     Ok(())
 }
 
-fn document_of(difference: &Differing) -> Value {
-    let mut members = Map::new();
-    members.insert("table".to_string(), json!(difference.table));
-    if !difference.place.is_empty() {
-        members.insert("place".to_string(), json!(difference.place));
-    }
-    match (difference.old.as_deref(), difference.new.as_deref()) {
-        (Some(""), _) => drop(members.insert("only".to_string(), json!("base"))),
-        (_, Some("")) => drop(members.insert("only".to_string(), json!("machine"))),
-        (old, new) => {
-            members.insert("base".to_string(), json!(old));
-            members.insert("machine".to_string(), json!(new));
+/// What is printed of a machine, on a line. The members are in the order of their names.
+#[derive(Serialize)]
+#[serde(untagged)]
+enum Document<'f> {
+    Read { differences: &'f [DifferenceOf<'f>], group: usize, invalid: usize, machine: &'f str, tables: usize },
+    Unread { error: &'f str, machine: &'f str },
+}
+
+/// A difference from the base: the values in both, or which of them alone has the place or the table.
+#[derive(Serialize)]
+#[serde(untagged)]
+enum DifferenceOf<'f> {
+    Changed {
+        base: Option<&'f str>,
+        machine: Option<&'f str>,
+        #[serde(skip_serializing_if = "str::is_empty")]
+        place: &'f str,
+        table: &'f str,
+    },
+    Only {
+        only: &'static str,
+        #[serde(skip_serializing_if = "str::is_empty")]
+        place: &'f str,
+        table: &'f str,
+    },
+}
+
+impl<'f> DifferenceOf<'f> {
+    fn of(difference: &'f Differing) -> DifferenceOf<'f> {
+        let (table, place) = (difference.table.as_str(), difference.place.as_str());
+        match (difference.old.as_deref(), difference.new.as_deref()) {
+            (Some(""), _) => DifferenceOf::Only { only: "base", place, table },
+            (_, Some("")) => DifferenceOf::Only { only: "machine", place, table },
+            (base, machine) => DifferenceOf::Changed { base, machine, place, table },
         }
     }
-    Value::Object(members)
+}
+
+fn print_document(document: &Document<'_>, out: &mut impl Write) -> Result<()> {
+    serde_json::to_writer(&mut *out, document)?;
+    writeln!(out)
 }
 
 fn print_documents(fleet: &Fleet, rank: usize, group: &Group, found: &[Differing], out: &mut impl Write) -> Result<()> {
-    let differ: Value = found.iter().map(document_of).collect();
-    for member in group.machines.iter().map(|machine| &fleet.members[*machine]) {
-        if let Ok((_, tables, invalid)) = &member.found {
-            let line = json!({"differences": differ, "group": rank + 1, "invalid": invalid, "machine": member.name,
-                "tables": tables});
-            writeln!(out, "{line}")?;
+    let differences = &found.iter().map(DifferenceOf::of).collect::<Vec<_>>();
+    for Member { name: machine, found } in group.machines.iter().map(|machine| &fleet.members[*machine]) {
+        if let Ok((_, tables, invalid)) = *found {
+            print_document(&Document::Read { differences, group: rank + 1, invalid, machine, tables }, out)?;
         }
     }
     Ok(())
@@ -188,9 +212,9 @@ fn print_documents(fleet: &Fleet, rank: usize, group: &Group, found: &[Differing
 
 /// Prints a document for each machine that can't be read.
 fn print_errors(fleet: &Fleet, out: &mut impl Write) -> Result<()> {
-    for member in &fleet.members {
-        if let Err(why) = &member.found {
-            writeln!(out, "{}", json!({"error": why, "machine": member.name}))?;
+    for Member { name: machine, found } in &fleet.members {
+        if let Err(error) = found {
+            print_document(&Document::Unread { error, machine }, out)?;
         }
     }
     Ok(())
