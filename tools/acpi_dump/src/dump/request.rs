@@ -106,6 +106,10 @@ pub(crate) struct Request<'w> {
     pub(crate) color: Color,
 }
 
+const ORDERS: [(&str, Order); 3] = [("table", Order::Tables), ("rule", Order::Rules), ("severity", Order::Severities)];
+
+const COLORS: [(&str, Color); 3] = [("auto", Color::Auto), ("always", Color::Always), ("never", Color::Never)];
+
 const ONE_VIEW: &str = "[--table SIG].. [--hex SIG].. | --get VALUE.. | --text [--table SIG].. | \
      --extract DIR [--table SIG].. | [--check] --html FILE | --summary | --find | \
      --compare [--html FILE] | --check | --rules";
@@ -175,20 +179,9 @@ impl<'w> Request<'w> {
             page: name("html", arguments.html.as_deref())?,
             baseline: name("baseline", arguments.baseline.as_deref())?,
             accepted: name("ignore-rules", arguments.ignore_rules.as_deref())?,
-            format: match parsed("format", arguments.format.as_deref(), parse_format)? {
-                Some(format) => format,
-                None => Format::Lines,
-            },
-            order: one_of(
-                "sort",
-                arguments.sort.as_deref(),
-                [("table", Order::Tables), ("rule", Order::Rules), ("severity", Order::Severities)],
-            )?,
-            color: one_of(
-                "color",
-                arguments.color.as_deref(),
-                [("auto", Color::Auto), ("always", Color::Always), ("never", Color::Never)],
-            )?,
+            format: parsed("format", arguments.format.as_deref(), parse_format)?.unwrap_or(Format::Lines),
+            order: one_of("sort", arguments.sort.as_deref(), ORDERS)?,
+            color: one_of("color", arguments.color.as_deref(), COLORS)?,
             view: View::Lines,
             choices: Vec::new(),
             wanted: Vec::new(),

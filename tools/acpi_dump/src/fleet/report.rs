@@ -44,15 +44,10 @@ pub(super) fn print(
     if style == Style::Text {
         print_members(fleet, &ranked, out)?;
     }
-    let name = match (request.base, ranked.first()) {
-        (Some(name), _) => name,
-        (None, Some(first)) => name_of(fleet, &fleet.groups[*first]),
-        (None, None) => "",
-    };
-    let base = match name {
-        "" => Err("no machine can be read".to_string()),
-        _ => read_machine(name, request.most),
-    };
+    let first = ranked.first().map_or("", |first| name_of(fleet, &fleet.groups[*first]));
+    let name = request.base.unwrap_or(first);
+    let base =
+        if name.is_empty() { Err("no machine can be read".to_string()) } else { read_machine(name, request.most) };
     if let Err(why) = &base {
         eprintln!("acpi_dump: {}", plain(why));
     }
