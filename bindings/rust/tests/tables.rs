@@ -223,7 +223,7 @@ fn opens_a_root_table() {
     assert_eq!((by(2, xsdt), by(0, rsdp_2).map(|it| it.rsdp_length)), (Ok(root(xsdt, 52, 2, 8)), Ok(36)));
     let failures = [by(1, xsdt), by(3, 0), by(4, 0), by(5, 0)].map(|root| root.unwrap_err().to_string());
     assert_eq!(failures, ["SdtInvalidSignature RSDT", "MapFailed", "NoValidRsdp", "UnknownStart"]);
-    let from = Source { regions: &regions, address: rsdp_2, start: 0, accept: 4 };
+    let from = Source { regions: &regions, address: rsdp_2, start: 0, accept: 32 };
     assert_eq!(opening::root(&from), Err(Refusal::UnknownPolicy));
     let from = Source { accept: 0, ..from };
     assert_eq!(all(|out| walks::ranges(&from, out)).map(|it| it[0]), Ok(Range { address: rsdp_2, length: 36 }));
