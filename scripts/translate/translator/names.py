@@ -63,6 +63,7 @@ NAMES = [
     ('inlined', r'acpi_c_lib\.opening\.root_pointer'),
 
     ('started', r'acpi_c_lib\.opening\.root_pointer'),
+    ('started', r'zacpi_\d+_get_rsdp'),
 ]
 TO_PASSES = {'always': 'alwaysinline', 'hot': 'inlinehint', 'apart': 'noinline', 'small': 'optsize'}
 
