@@ -6,12 +6,12 @@
 #include "stick.h"
 
 enum { SECTOR = 512, NUMBERS = SECTOR / 4, PIECE = 16, MOST_CLUSTERS = 1 << 17, MOST_FOLDERS = 1024, STEPS = 4096 };
-enum { UNREAD = 1, CHAIN_END = 0xffffff8 }; /* numbers of a table: of no cluster, and from which on a chain ends */
+enum { UNREAD = 1, CHAIN_END = 0xffffff8 };     /* numbers of a table: of no cluster, and from which on a chain ends */
 enum { READ_ONLY = 1, LABEL = 8, FOLDER = 16 }; /* attributes; a part of a long name has LABEL too */
 
 static const char unreadable[] = "the stick can't be read", damaged[] = "the stick's file system is damaged",
                   shared[] = "another file shares its clusters", many[] = "the stick has too many folders";
-static uint8_t there[BLOCK] __attribute__((aligned(16)));           /* what was read */
+static uint8_t there[BLOCK] __attribute__((aligned(16)));          /* what was read */
 static uint8_t table[PIECE * SECTOR] __attribute__((aligned(16))); /* of the first table, from `table_sector` on */
 static uint32_t table_sector, tables, table_sectors, data, each, clusters, root; /* `each`: sectors of a cluster */
 static uint32_t first, length, starts, waiting, steps, folders[MOST_FOLDERS];
