@@ -5,8 +5,8 @@ import re
 
 MOST = 48  # bytes of a copy that is made of words
 VALUE = r'[%@](?:"[^"]*"|[\w.$-]+)'
-COPY = re.compile(rf'(?m)^ *(?:tail )?call void @llvm\.memcpy\.p0\.p0\.i64\(ptr ([^%@]*)({VALUE}), ptr ([^%@]*)({VALUE}), '
-                  r'i64 (\d+), i1 false\)(.*)$')
+COPY = re.compile(rf'(?m)^ *(?:tail )?call void @llvm\.memcpy\.p0\.p0\.i64\(ptr ([^%@]*)({VALUE}), '
+                  rf'ptr ([^%@]*)({VALUE}), i64 (\d+), i1 false\)(.*)$')
 LEFT = re.compile(r'(?m)^.*call void @llvm\.(?:experimental\.noalias\.scope\.decl|assume)\(.*\n')
 
 

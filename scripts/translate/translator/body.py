@@ -1,6 +1,6 @@
 # SPDX-License-Identifier: MIT
-"""For scripts/translate/ir2c: the lines of a function, put together from the tree of dominators: what a block dominates is written
-inside of it. A line is text, a Label, a Begin, or a list of lines that are farther in."""
+"""For scripts/translate/ir2c: the lines of a function, put together from the tree of dominators: what a block dominates
+is written inside of it. A line is text, a Label, a Begin, or a list of lines that are farther in."""
 import re
 from typing import NamedTuple
 
@@ -50,8 +50,8 @@ class Body(Expressions):
         for block in self.phis:
             for name, kind, _ in self.phis[block]:
                 self.top[self.function.word(name)] = c_type(kind)
-        lines, self.wanted, self.copies = structured(self.function, lines, Label, self.label, set(self.flow.loops), Before,
-                                                       self.top, c_type(self.function.result))
+        lines, self.wanted, self.copies = structured(self.function, lines, Label, self.label, set(self.flow.loops),
+                                                     Before, self.top, c_type(self.function.result))
         return lines
 
     def tree(self, block, out, follow, around):

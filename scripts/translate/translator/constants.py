@@ -45,7 +45,7 @@ def with_enumerators(lines):
             line = line[:found.start()] + f'{found[1]}{of(found[5], found[2])}{found[3]}{note}'
         for found in IS.findall(line):
             code, sign, comment = line.rpartition('/* ')
-            made, count = re.subn(rf'( (?:==|!=|<|>|<=|>=) ){found[0]}\b', lambda m: m[1] + of(found[1], found[0]), code)
+            made, count = re.subn(rf'( (?:==|!=|<|>|<=|>=) ){found[0]}\b', rf'\1{of(found[1], found[0])}', code)
             if count == 1:
                 comment = re.sub(rf'(?:, )?{found[0]} is {found[1]}\b', '', comment).lstrip(', ')
                 line = made.rstrip() if comment.strip() == '*/' else f'{made}{sign}{comment}'

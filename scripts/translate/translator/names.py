@@ -1,11 +1,11 @@
 # SPDX-License-Identifier: MIT
-"""What LLVM's passes and compilers of the C are told of functions by name. Each row has to match a function: a name that
-is gone is an error."""
+"""What LLVM's passes and compilers of the C are told of functions by name. Each row has to match a function: a name
+that is gone is an error."""
 import re
 import sys
 
-# Small functions stay functions, so that a reader meets each rule once (scripts/dist names LLVM's limit), but for what is
-# told here, to what functions, by their whole names. To LLVM's passes:
+# Small functions stay functions, so that a reader meets each rule once (scripts/dist names LLVM's limit), but for what
+# is told here, to what functions, by their whole names. To LLVM's passes:
 # - always, a part of each caller: it is called at one place of each, or its result goes through memory otherwise;
 # - hot, what is rather a part of its callers: the paths of the calls that docs/SPEED.md counts;
 # - apart, a function of its own: it is in each call, and is rarely come to, or is long;

@@ -142,7 +142,8 @@ def written_loop(node, before):
             said = [one for one in rest[:head] if isinstance(one, str)]
             note = first.notes
             begun = [before(one.block) for one in marks]
-            return [*said, f'while ({negated(first.condition)}) {{{note}', begun + written(rest[head + 1:], before), '}']
+            inner = begun + written(rest[head + 1:], before)
+            return [*said, f'while ({negated(first.condition)}) {{{note}', inner, '}']
     last = rest[-1] if rest else None
     if isinstance(last, If) and [getattr(one, 'text', None) for one in last.yes] == ['break;'] and not last.no and \
             not any(goes_on(one) for one in rest) and \

@@ -1,8 +1,8 @@
 # SPDX-License-Identifier: MIT
-"""For scripts/translate/ir2c: gotos of a function's lines that C has other words for are written so. A jump to where the
-code comes to anyway is left out; one to the end of a loop or a switch is `break`; what follows an `if` whose arm jumps
-over it becomes its `else`; a short end of the function that several ways lead to is written at each; conditions that
-lead to one place become one.
+"""For scripts/translate/ir2c: gotos of a function's lines that C has other words for are written so. A jump to where
+the code comes to anyway is left out; one to the end of a loop or a switch is `break`; what follows an `if` whose arm
+jumps over it becomes its `else`; a short end of the function that several ways lead to is written at each; conditions
+that lead to one place become one.
 
 Nothing rests on it: scripts/translate/validate proves the function that comes out."""
 import re
@@ -86,8 +86,8 @@ class Structure(Ways):
                 if after is None or self.needed(seq[at + 1:after]):
                     continue
                 other = seq[after]
-                if isinstance(other, If) and not other.no and len(other.yes) == 1 and isinstance(other.yes[0], Jump) and \
-                        (other.yes[0].text == node.yes[0].text):
+                if isinstance(other, If) and not other.no and len(other.yes) == 1 and \
+                        isinstance(other.yes[0], Jump) and other.yes[0].text == node.yes[0].text:
                     made = both(node.condition, '||', other.condition)
                     if made:
                         notes = node.notes + other.notes
@@ -289,7 +289,7 @@ class Structure(Ways):
     def nexts(self):
         """A jump back to the begin of an outer loop becomes one forward, to its end."""
         for word, (seq, at) in list(self.by_word.items()):
-            loop = next((one for one in seq[at:] if not (isinstance(one, Mark) and isinstance(one.node, self.label_type))), None)
+            loop = next((one for one in seq[at:] if not self.is_label(one)), None)
             if not isinstance(loop, Loop):
                 continue
             inner = [use for use in self.uses.get(word, []) if self.within(use, loop)]
@@ -310,7 +310,8 @@ class Structure(Ways):
                 at = len(seq) - 1
                 if at < 0 or not isinstance(seq[at], Jump) or seq[at].kind != 'return':
                     break
-                before = next((one for one in range(at - 1, -1, -1) if is_real(seq[one]) or self.needed([seq[one]])), None)
+                places = range(at - 1, -1, -1)
+                before = next((one for one in places if is_real(seq[one]) or self.needed([seq[one]])), None)
                 found = before is not None and isinstance(seq[before], str) and \
                     re.match(r'(?:const )?(?:(\w+) )?(\w+) = (.*);( /\*.*\*/)?$', seq[before])
                 if not found or seq[at].text != f'return {found[2]};' or (found[1] or types.get(found[2])) != result:

@@ -4,8 +4,8 @@ from .nodes import If, Jump, Loop, Mark, Switch, is_real, parsed
 
 
 class Ways:
-    """A function's nodes: where each is, and where the code comes from each place. What changes nodes has `look` see them
-    anew."""
+    """A function's nodes: where each is, and where the code comes from each place. What changes nodes has `look` see
+    them anew."""
 
     def __init__(self, function, lines, label_type, label, headers):
         self.function, self.label_type, self.label, self.headers = function, label_type, label, headers
@@ -78,6 +78,9 @@ class Ways:
         outer, at = self.place[id(parent)]
         return self.target(outer, at + 1, seen)
 
+    def is_label(self, node):
+        return isinstance(node, Mark) and isinstance(node.node, self.label_type)
+
     def is_header(self, node):
         return isinstance(node, Mark) and not isinstance(node.node, self.label_type) and node.block in self.headers
 
@@ -105,7 +108,7 @@ class Ways:
     def needed(self, nodes):
         """Whether there is a label that is jumped to."""
         for node in nodes:
-            if isinstance(node, Mark) and isinstance(node.node, self.label_type) and self.uses.get(self.label(node.block)):
+            if self.is_label(node) and self.uses.get(self.label(node.block)):
                 return True
             if hasattr(node, 'parts') and any(self.needed(part) for part in node.parts()):
                 return True
@@ -127,7 +130,8 @@ class Ways:
 
     def simple(self, node):
         """Whether all in the arms is statements, or a return."""
-        return all(isinstance(one, str) or isinstance(one, Jump) and one.kind in ('return',) for part in node.parts() for one in part)
+        return all(isinstance(one, str) or isinstance(one, Jump) and one.kind == 'return'
+                   for part in node.parts() for one in part)
 
     def place_of(self, node):
         for seq in self.every():

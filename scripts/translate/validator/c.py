@@ -247,7 +247,8 @@ def ignored(_, node):
 
 STATEMENTS = {
     'Compound': Steps.several, 'Decl': Steps.declaration, 'DeclList': Steps.declarations, 'Label': Steps.labelled,
-    'While': Steps.repeated, 'DoWhile': Steps.repeated, 'If': Steps.choice, 'For': Steps.loop, 'Switch': Steps.switch, 'FuncCall': Steps.call,
+    'While': Steps.repeated, 'DoWhile': Steps.repeated, 'If': Steps.choice, 'For': Steps.loop,
+    'Switch': Steps.switch, 'FuncCall': Steps.call,
     'Goto': lambda self, node: self.put('goto', node.name),
     'Break': lambda self, _: self.put('goto', self.around[-1][0]),
     'Continue': lambda self, _: self.put('goto', self.around[-1][1]),

@@ -1,8 +1,8 @@
 # SPDX-License-Identifier: MIT
 """For scripts/translate/validate: wrong edits of lines of C, of kinds that none can be of no effect: one store or call
 less, or of another width; another place or value that is stored; the other way of a branch or of a loop; one of two
-conditions that is enough, or a way on in place of one out; another value that is returned, that a switch goes by, or that
-one of its cases has. The validator has to refuse each."""
+conditions that is enough, or a way on in place of one out; another value that is returned, that a switch goes by, or
+that one of its cases has. The validator has to refuse each."""
 import random
 import re
 from typing import NamedTuple
@@ -37,7 +37,8 @@ KINDS = [
      lambda found: f'if (({found[1]}) || ({found[2]})) {found[3]}'),
     ('both conditions', r'if \((.*) \|\| (.*)\) (\{|goto .*|break;|continue;|return.*)$',
      lambda found: f'if (({found[1]}) && ({found[2]})) {found[3]}'),
-    ('a loop the other way', r'(\} )?while \((.*)\)(;| \{)$', lambda found: f'{found[1] or ""}while (!({found[2]})){found[3]}'),
+    ('a loop the other way', r'(\} )?while \((.*)\)(;| \{)$',
+     lambda found: f'{found[1] or ""}while (!({found[2]})){found[3]}'),
     ('on in place of out', r'if \((.*)\) break;$', lambda found: f'if ({found[1]}) continue;'),
     ('another case', r'case (\d+):(.*)$', lambda found: f'case {int(found[1]) + 64}:{found[2]}'),
     ('a fill with ones', r'(memset\(.*?), 0, (\d+\);)$', lambda found: f'{found[1]}, 1, {found[2]}'),
