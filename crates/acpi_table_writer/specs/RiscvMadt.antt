@@ -1,5 +1,5 @@
 -- The MADT of a RISC-V machine: its bytes, and that what was passed is what is read (ACPI 6.6, section 5.2.12).
-use Rattle.std.specs.Prelude.{◌≡◌, ℕ, false, not, List, [], ◌∷◌, ◌++◌, map, flat_map, Result, All}
+use Rattle.std.specs.Prelude.{◌≡◌, ℕ, false, not, List, [], ◌∷◌, ◌++◌, map, flat_map, replicate, Result, All}
 use Rattle.acpi_riscv.specs.declared.entry.RiscvEntry.TheVariants as kinds
 use Rattle.acpi_table_writer.specs.Fields.{Fits, fields_bytes}
 use Rattle.acpi_table_writer.specs.MadtBytes.{is_empty, madt_fixed}
@@ -98,11 +98,24 @@ pub record IsRiscvMadt (ids : TableIds) (c : RiscvContents) (table : List ℕ) :
 abbrev pub RiscvMadtIsValid : Type 0
 RiscvMadtIsValid = (ids : TableIds) (c : RiscvContents) (table : List ℕ) → IsRiscvMadt ids c table → IsValid MADT table
 
--- what is to be read: an entry is read as itself
+-- an entry as it is read: what is reserved is 0
+abbrev pub rintc_read_as : Rintc → Rintc
+rintc_read_as x = record x { reserved = replicate 7 0 }
+
+abbrev pub imsic_read_as : Imsic → Imsic
+imsic_read_as x = record x { reserved = replicate 3 0 }
+
+abbrev pub aplic_read_as : Aplic → Aplic
+aplic_read_as x = record x { reserved = replicate 6 0 }
+
+abbrev pub plic_read_as : Plic → Plic
+plic_read_as x = record x { reserved = replicate 6 0 }
+
+-- what is to be read: each entry, and else as itself
 abbrev pub riscv_read : RiscvContents → List RiscvEntry
 riscv_read c =
-    map kinds.Rintc c.rintcs.now ++ (map kinds.Imsic c.imsics.now
-    ++ (map kinds.Aplic c.aplics.now ++ map kinds.Plic c.plics.now))
+    map (λ x. kinds.Rintc (rintc_read_as x)) c.rintcs.now ++ (map (λ x. kinds.Imsic (imsic_read_as x)) c.imsics.now
+    ++ (map (λ x. kinds.Aplic (aplic_read_as x)) c.aplics.now ++ map (λ x. kinds.Plic (plic_read_as x)) c.plics.now))
 
 -- and its entries are exactly those that were passed, in order
 abbrev pub RiscvMadtIsRead : Type 0

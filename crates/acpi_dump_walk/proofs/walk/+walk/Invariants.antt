@@ -16,4 +16,4 @@ decreases-walk_list g l = 2 * l.depth
 
 -- each entry leaves fewer bytes
 abbrev pub decreases-walk_list-entries : goal.decreases-walk_list-entries
-decreases-walk_list-entries g l = l.extent.end - l.start
+decreases-walk_list-entries g l = l.end - l.start
