@@ -101,7 +101,7 @@ def workspace(erase, folder, names):
     shutil.copytree(erase.ROOT / 'tools/acpi_dump', folder / 'acpi_dump',
                     ignore=shutil.ignore_patterns('tests', 'examples', 'data'))
     toml = folder / 'acpi_dump/Cargo.toml'
-    toml.write_text(toml.read_text().replace('../../bindings/', '../'))
+    toml.write_text(toml.read_text().replace('../../bindings/', '../').replace('[lints]\nworkspace = true\n', ''))
     heap = 'linked_list_allocator'
     shutil.copytree(erase.ROOT / 'tests/rustc' / heap, folder / heap)
     for name in names:
